@@ -1,3 +1,5 @@
+pub mod Bytes
+pub mod Call
+pub mod Directions
 pub mod Filing
 pub mod Supply
-pub mod Directions

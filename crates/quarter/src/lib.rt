@@ -1,9 +1,11 @@
 // One quarter-hour of a supply point: which shares its net reactive energy falls into, and what they
 // are worth. The shares are those of document 01, "One quarter-hour", which reads source document
 // 004, chapters 2 to 4; `specs/Reading.antt` has 01's lines and `specs/Source.antt` those of 004.
+mod c_call;
 mod classification;
 mod valuation;
 
+pub use c_call::reactive_classify;
 pub use classification::classify;
 use quantity::Amount;
 use quantity::Grains;
