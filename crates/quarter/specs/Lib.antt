@@ -1,3 +1,5 @@
+pub mod Agreement
+pub mod Call
 pub mod Reading
 pub mod Refusals
-pub mod Call
+pub mod Source
