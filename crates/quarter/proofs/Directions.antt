@@ -20,7 +20,7 @@ use Rattle.quarter.specs.Reading.{filed, none, absolute, connected, ofRo
 abbrev mirror : Metered → Metered
 mirror m = record { lamp = m .lamp; take = m .supply; supply = m .take; actual = m .set; set = m .actual }
 
-and-comm : (a b : Bool) → a && b ≡ b && a
+pub and-comm : (a b : Bool) → a && b ≡ b && a
 and-comm true true = refl
 and-comm true false = refl
 and-comm false true = refl

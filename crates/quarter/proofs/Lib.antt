@@ -1,5 +1,7 @@
+pub mod Agreement
 pub mod Bytes
 pub mod Call
+pub mod Conservation
 pub mod Directions
 pub mod Filing
 pub mod Signed
