@@ -1,14 +1,14 @@
 -- The five shares always add up to |W|. With it: where 004 is silent, 01's reading; and no amount within 01's ranges is cut off.
 -- Assumes nothing.
 use Prim.Native.Nat.{ℕ, _+_, _-_, _*_, _≤_, _<_}
-use mathlib.Core.Path.{_≡_, refl, sym, ap, _∙_}
+use mathlib.Core.Path.{_≡_, refl, ap₂, _∙_}
 use mathlib.Core.Bool.{Bool, true, false, cond, _&&_}
 use native.Mathlib.Nat.{mul-le-mul}
 use native.Mathlib.Omega.{arith}
-use borrow.Author.Tests.{leb-false, le-leb, eqb-true, eqb-false, eq-eqb, ne-eqb}
-use lib.Dec.{ltb, leb, eqb}
+use borrow.Author.Tests.{leb-false, le-leb, eqb-true, eq-eqb}
+use lib.Dec.{leb, eqb}
 use Rattle.quantity.specs.declared.Grains.{Grains}
-use Rattle.quantity.specs.Quantity.{perKvarh, grains, amount}
+use Rattle.quantity.specs.Quantity.{grains}
 use Rattle.quarter.specs.declared.Role.{Role}
 use Rattle.quarter.specs.declared.Role.the-variants.{Active, SemiActive}
 use Rattle.quarter.specs.declared.Level.{Level}
@@ -17,8 +17,9 @@ use Rattle.quarter.specs.declared.Class.the-variants.{Paid, Free, Billed
 use Rattle.quarter.specs.declared.Metered.{Metered}
 use Rattle.quarter.specs.declared.Shares.{Shares}
 use Rattle.quarter.specs.declared.Tariffs.{Tariffs}
-use Rattle.quarter.specs.Reading.{absolute, shares, none, filed, semiActiveFree, semiActive, connected, ofRole, exchanged, classified}
-use Rattle.quarter.specs.Agreement.{total}
+use Rattle.quarter.specs.Reading.{absolute, shares, none, filed, activeClass, helps, semiActiveFree, semiActive, ofRole, exchanged, classified}
+use Rattle.quarter.specs.Reading.{creditOf, debitOf, amounts, valued}
+use Rattle.quarter.specs.Agreement.{total, InRange}
 
 filed-total : (k : Class) (w a : Grains) → total (filed k w a) ≡ w .0 + a .0
 unfolding total
@@ -30,9 +31,9 @@ filed-total Disconnected w a = omega arith
 all-filed : (k : Class) (w : ℕ) → total (filed k (grains w) none) ≡ w
 all-filed k w = filed-total k (grains w) none ∙ omega arith
 
-semi-active-total : (l : Level) (b w u s : ℕ) (helps : Bool) → total (semiActive l b w u s helps) ≡ w
+semi-active-total : (l : Level) (b w u s : ℕ) (helping : Bool) → total (semiActive l b w u s helping) ≡ w
 unfolding semiActive
-semi-active-total l b w u s helps = go (leb w b) refl (leb s (u + semiActiveFree l) && leb u (s + semiActiveFree l)) helps
+semi-active-total l b w u s helping = go (leb w b) refl (leb s (u + semiActiveFree l) && leb u (s + semiActiveFree l)) helping
   where
     above : (k : Class) → leb w b ≡ false → total (filed k (grains (w - b)) (grains b)) ≡ w
     above k p = filed-total k (grains (w - b)) (grains b) ∙ omega (arith, leb-false w b p)
@@ -45,3 +46,61 @@ semi-active-total l b w u s helps = go (leb w b) refl (leb s (u + semiActiveFree
     go false p true helped = all-filed Free w
     go false p false true = above Paid p
     go false p false false = above Billed p
+
+lamp-total : (lamp : Bool) (k : Class) (w : ℕ) → total (cond lamp (filed k (grains w) none) (filed Disconnected (grains w) none)) ≡ w
+lamp-total true k w = all-filed k w
+lamp-total false k w = all-filed Disconnected w
+
+exchanged-total : (role : Role) (l : Level) (m : Metered) → total (exchanged role l m) ≡ absolute m
+unfolding exchanged ofRole
+exchanged-total Active l m = lamp-total (m .lamp) (activeClass l m) (absolute m)
+exchanged-total (SemiActive b) l m = semi-active-total l (b .0) (absolute m) (m .actual .0) (m .set .0) (helps l m)
+
+-- paid, free, billed, allowance and disconnected are all of |W|, and nothing else
+pub conserved : (role : Role) (l : Level) (m : Metered) → total (classified role l m) ≡ absolute m
+unfolding classified
+conserved role l m = go (eqb (m .take) (m .supply)) refl
+  where
+    go : (zero : Bool) → eqb (m .take) (m .supply) ≡ zero
+        → total (cond zero (shares none none none none none) (exchanged role l m)) ≡ absolute m
+    go true p = unfold total absolute in omega (arith, eqb-true (m .take) (m .supply) p)
+    go false p = exchanged-total role l m
+
+-- where 004 is silent, 01 says: "W = 0 gives all zero"
+pub at-zero : (role : Role) (l : Level) (m : Metered) → m .take ≡ m .supply → classified role l m ≡ shares none none none none none
+unfolding classified
+at-zero role l m e = rw (eq-eqb (m .take) (m .supply) e)
+
+-- and "|W| ≤ B: all free", with |W| = B among it
+pub at-the-band : (b : Grains) (l : Level) (m : Metered) → absolute m ≡ b .0
+    → classified (SemiActive b) l m ≡ filed Free (grains (absolute m)) none
+unfolding classified exchanged ofRole semiActive
+at-the-band b l m e = go (eqb (m .take) (m .supply)) refl
+  where
+    go : (zero : Bool) → eqb (m .take) (m .supply) ≡ zero
+        → cond zero (shares none none none none none) (exchanged (SemiActive b) l m) ≡ filed Free (grains (absolute m)) none
+    go true p =
+        let nothing : absolute m ≡ 0 = unfold absolute in omega (arith, eqb-true (m .take) (m .supply) p) in
+        rw nothing
+    go false p = rw (le-leb (absolute m) (b .0) (omega arith))
+
+part-most : (s : Shares) (w : ℕ) → total s ≤ w → (s .paid .0 ≤ w) × (s .billed .0 ≤ w)
+unfolding total
+part-most s w h = omega arith
+
+absolute-most : (m : Metered) (t : Tariffs) → InRange m t → absolute m ≤ 1600000000
+unfolding absolute
+absolute-most m t r = omega arith
+
+-- within 01's ranges 64 bits hold both amounts: nothing is cut off
+pub exact : (role : Role) (l : Level) (m : Metered) (t : Tariffs) → InRange m t
+    → valued (classified role l m) t ≡ amounts (creditOf (classified role l m) t) (debitOf (classified role l m) t)
+unfolding valued creditOf debitOf
+exact role l m t r =
+    let s = classified role l m in
+    let all : total s ≤ 1600000000 = omega (arith, conserved role l m, absolute-most m t r) in
+    let parts = part-most s 1600000000 all in
+    let rate : t .billing + t .penalty ≤ 200000 = omega arith in
+    let credit : s .paid .0 * t .payment ≤ 1600000000 * 100000 = mul-le-mul (parts .0) (r .payment-most) in
+    let debit : s .billed .0 * (t .billing + t .penalty) ≤ 1600000000 * 200000 = mul-le-mul (parts .1) rate in
+    ap₂ amounts (omega arith) (omega arith)

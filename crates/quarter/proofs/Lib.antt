@@ -1,4 +1,5 @@
 pub mod Agreement
+pub mod Band
 pub mod Bytes
 pub mod Call
 pub mod Conservation

@@ -60,6 +60,11 @@ activeTake l u s =
     (cond (ltb s (u + tolerance l + activeFree l)) Free
     Billed)
 
+-- either, by the sign of W
+abbrev pub activeClass : Level → Metered → Class
+activeClass l m =
+    cond (ltb (m .take) (m .supply)) (activeSupply l (m .actual .0) (m .set .0)) (activeTake l (m .actual .0) (m .set .0))
+
 -- Semi-active: "F = 200 or 300."
 abbrev pub semiActiveFree : Level → ℕ
 semiActiveFree Kv220 = 200
@@ -77,10 +82,10 @@ band (t ∷ ts) = t .uk * t .sn + band ts
 
 -- "|W| ≤ B: all free". "|W| > B and S−F ≤ U ≤ S+F: all free." "Otherwise B is allowance and |W|−B is paid .. or billed"
 unfoldable pub semiActive : Level → ℕ → ℕ → ℕ → ℕ → Bool → Shares
-semiActive l b w u s helps =
+semiActive l b w u s helping =
     cond (leb w b) (filed Free (grains w) none)
     (cond (leb s (u + semiActiveFree l) && leb u (s + semiActiveFree l)) (filed Free (grains w) none)
-    (cond helps (filed Paid (grains (w - b)) (grains b))
+    (cond helping (filed Paid (grains (w - b)) (grains b))
     (filed Billed (grains (w - b)) (grains b))))
 
 -- "paid (W < 0 and U < S−F, or W > 0 and U > S+F)"
@@ -90,14 +95,15 @@ helpsBySupply l u s = ltb (u + semiActiveFree l) s
 unfoldable pub helpsByTake : Level → ℕ → ℕ → Bool
 helpsByTake l u s = ltb (s + semiActiveFree l) u
 
--- the lines of each role, by the sign of W
+-- either, by the sign of W
+abbrev pub helps : Level → Metered → Bool
+helps l m =
+    cond (ltb (m .take) (m .supply)) (helpsBySupply l (m .actual .0) (m .set .0)) (helpsByTake l (m .actual .0) (m .set .0))
+
+-- the lines of each role
 unfoldable pub ofRole : Role → Level → Metered → Shares
-ofRole Active l m =
-    filed (cond (ltb (m .take) (m .supply)) (activeSupply l (m .actual .0) (m .set .0)) (activeTake l (m .actual .0) (m .set .0)))
-    (grains (absolute m)) none
-ofRole (SemiActive b) l m =
-    semiActive l (b .0) (absolute m) (m .actual .0) (m .set .0)
-    (cond (ltb (m .take) (m .supply)) (helpsBySupply l (m .actual .0) (m .set .0)) (helpsByTake l (m .actual .0) (m .set .0)))
+ofRole Active l m = filed (activeClass l m) (grains (absolute m)) none
+ofRole (SemiActive b) l m = semiActive l (b .0) (absolute m) (m .actual .0) (m .set .0) (helps l m)
 
 -- Active: "Lamp 0: all of |W| is disconnected." Semi-active: "The lamp has no effect."
 abbrev pub connected : Role → Bool → Bool
@@ -119,6 +125,9 @@ creditOf s t = s .paid .0 * t .payment
 unfoldable pub debitOf : Shares → Tariffs → ℕ
 debitOf s t = s .billed .0 * (t .billing + t .penalty)
 
--- both amounts, where 64 bits hold them
+abbrev pub amounts : ℕ → ℕ → Amounts
+amounts c d = record { credit = amount c; debit = amount d }
+
+-- both amounts, as far as 64 bits hold them: within 01's ranges they hold all (`exact` in proofs/Conservation.antt)
 unfoldable pub valued : Shares → Tariffs → Amounts
-valued s t = record { credit = amount (capped 64 (creditOf s t)); debit = amount (capped 64 (debitOf s t)) }
+valued s t = amounts (capped 64 (creditOf s t)) (capped 64 (debitOf s t))
