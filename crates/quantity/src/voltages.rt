@@ -1,0 +1,49 @@
+// Voltages and the margins between them.
+use crate::Voltage;
+ghost use mathlib.Core.Path.{_≡_};
+ghost use Prim.Native.Nat.{_+_};
+ghost use lib.Dec.{ltb};
+ghost use Rattle.quantity.specs.Quantity.{capped, voltage};
+
+// The largest count that 32 bits hold.
+const MOST: u32 = 4_294_967_295;
+
+impl Voltage {
+    pub fn of(count: u32) -> Voltage
+        ensures { λ r. ⌜ r ≡ voltage count ⌝ }
+    {
+        Voltage(count)
+    }
+
+    pub fn count(self) -> u32
+        ensures { λ r. ⌜ r ≡ self .0 ⌝ }
+    {
+        self.0
+    }
+
+    pub fn plus(self, other: Voltage) -> Voltage
+        ensures { λ r. ⌜ r .0 ≡ capped 32 (self .0 + other .0) ⌝ }
+    {
+        let a = self.0;
+        let b = other.0;
+        if a > MOST - b {
+            return Voltage(MOST);
+        }
+        Voltage(a + b)
+    }
+
+    // Whether this voltage is below `other` with a margin added. Since the margin is added to one
+    // side and never taken from the other, no difference can fall below 0.
+    pub fn is_below(self, other: Voltage, margin: Voltage) -> bool
+        ensures { λ r. ⌜ r ≡ ltb (self .0) (other .0 + margin .0) ⌝ }
+    {
+        (self.0 as u64) < (other.0 as u64) + (margin.0 as u64)
+    }
+
+    // Whether this voltage is above `other` by more than a margin.
+    pub fn is_above(self, other: Voltage, margin: Voltage) -> bool
+        ensures { λ r. ⌜ r ≡ ltb (other .0 + margin .0) (self .0) ⌝ }
+    {
+        (other.0 as u64) + (margin.0 as u64) < (self.0 as u64)
+    }
+}
