@@ -1,5 +1,7 @@
-use Prim.Native.Nat.{_+_, _*_}
-use mathlib.Core.Path.{_≡_}
+-- `quarter::value` meets its contract: each amount is the product of a share and its rate.
+-- Assumes nothing.
+use Prim.Native.Nat.{ℕ, _+_, _*_}
+use mathlib.Core.Path.{_≡_, ap, _∙_}
 use borrow.Author.Needs.{needs}
 use Rattle.quantity.specs.declared.Amount.{Amount}
 use Rattle.quantity.specs.Quantity.{capped}
@@ -9,29 +11,18 @@ use Rattle.quarter.specs.declared.Amounts.{Amounts}
 use Rattle.quarter.specs.Reading.{creditOf, debitOf, valued}
 use Rattle.quarter.proofs.valuation.value.Statement.{statement}
 use Rattle.quarter.proofs.valuation.value.Tie as tie
-use Rattle.quarter.proofs.valuation.value.Reads as reads
-use Rattle.quarter.proofs.valuation.value.Lts as lts
-use Rattle.quantity.proofs.Grains.times.Reads as times-reads
 
-amounts : Amount → Amount → Amounts
-amounts c d = record { credit = c; debit = d }
+both : Amount → Amount → Amounts
+both c d = record { credit = c; debit = d }
 
-both-amounts : (s : Shares) (t : Tariffs) (c d : Amount) → c .0 ≡ capped 64 (s .paid .0 * t .payment)
-    → d .0 ≡ capped 64 (s .billed .0 * (t .billing + t .penalty)) → amounts c d ≡ valued s t
-unfolding amounts valued creditOf debitOf
-both-amounts s t c d p q = λ i. record { credit = record { 0 = p i }; debit = record { 0 = q i } }
-
--- src/valuation.rt:14:17
-cast-rate : tie.Need-cast-rate
-cast-rate c = search needs
-
--- src/valuation.rt:14:44
-cast-rate-2 : tie.Need-cast-rate-2
-cast-rate-2 c = search needs
-
--- src/valuation.rt:14:16
-add-rate : tie.Need-add-rate
-add-rate c = search needs
+both-amounts : (s : Shares) (t : Tariffs) (rate : ℕ) (c d : Amount) → c .0 ≡ capped 64 (s .paid .0 * t .payment)
+    → rate ≡ t .billing + t .penalty → d .0 ≡ capped 64 (s .billed .0 * rate) → both c d ≡ valued s t
+unfolding both valued creditOf debitOf
+both-amounts s t rate c d p r q =
+    let e : d .0 ≡ capped 64 (s .billed .0 * (t .billing + t .penalty)) =
+        q ∙ ap (λ (n : ℕ). capped 64 (s .billed .0 * n)) r
+    in
+    λ i. record { credit = record { 0 = p i }; debit = record { 0 = e i } }
 
 -- src/valuation.rt:15:29
 cast-times : tie.Need-cast-times
@@ -41,16 +32,18 @@ cast-times c = search needs
 times-requires : tie.Need-times-requires
 times-requires c κs = search needs
 
+-- src/valuation.rt:16:30
+rate-requires : tie.Need-rate-requires
+rate-requires c κs = search needs
+
 -- src/valuation.rt:16:9
 times-requires-2 : tie.Need-times-requires-2
 times-requires-2 c κs = search needs
 
--- src/valuation.rt:9:1
+-- src/valuation.rt:10:1
 returns : tie.Need-returns
-unfolding amounts
-returns c = both-amounts _ _ _ _ (c .before .times .ensures) (c .times2 .ensures)
+unfolding both
+returns c = both-amounts _ _ _ _ _ (c .before .before .times .ensures) (c .before .rate .ensures) (c .times2 .ensures)
 
 pub value-spec : {M : Type 1} → statement M
-value-spec =
-    tie.close
-    (tie.spec cast-rate cast-rate-2 add-rate cast-times times-requires times-requires-2 returns)
+value-spec = tie.close (tie.spec cast-times times-requires rate-requires times-requires-2 returns)
