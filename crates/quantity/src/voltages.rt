@@ -15,12 +15,6 @@ impl Voltage {
         Voltage(count)
     }
 
-    pub fn count(self) -> u32
-        ensures { λ r. ⌜ r ≡ self .0 ⌝ }
-    {
-        self.0
-    }
-
     pub fn plus(self, other: Voltage) -> Voltage
         ensures { λ r. ⌜ r .0 ≡ capped 32 (self .0 + other .0) ⌝ }
     {

@@ -47,8 +47,10 @@ margin Kv380 = refl
 module _ (l : Level) (m : Metered) where
   u : ℕ
   u = m .actual .0
+
   s : ℕ
   s = m .set .0
+
   v : ℤ
   v = pos (absolute m) *ℤ LL (m .lamp)
 
@@ -64,17 +66,37 @@ module _ (l : Level) (m : Metered) where
       (ltb s (u + tolerance l + activeFree l) && not (ltb s (u + tolerance l)))
   unfolding freiAktiv two u s v
   free-lines =
-      rw (supplies m, takes m, size m, tol l, margin l, differences s (tolerance l) (activeFree l), difference s (tolerance l),
-      below-of-difference s (tolerance l + activeFree l) u, most-difference s (tolerance l) u, not-below (s + tolerance l) u,
-      not-below (u + tolerance l) s, add-assoc u (tolerance l) (activeFree l))
+      rw (
+        supplies m,
+        takes m,
+        size m,
+        tol l,
+        margin l,
+        differences s (tolerance l) (activeFree l),
+        difference s (tolerance l),
+        below-of-difference s (tolerance l + activeFree l) u,
+        most-difference s (tolerance l) u,
+        not-below (s + tolerance l) u,
+        not-below (u + tolerance l) s,
+        add-assoc u (tolerance l) (activeFree l),
+      )
 
   billed-lines : verrechnetAktiv l m
       ≡ two (not (ltb u (s + tolerance l + activeFree l))) (not (ltb s (u + tolerance l + activeFree l)))
   unfolding verrechnetAktiv two u s v
   billed-lines =
-      rw (supplies m, takes m, size m, tol l, margin l, differences s (tolerance l) (activeFree l),
-      most-difference s (tolerance l + activeFree l) u, not-below (s + tolerance l + activeFree l) u,
-      not-below (u + (tolerance l + activeFree l)) s, add-assoc u (tolerance l) (activeFree l))
+      rw (
+        supplies m,
+        takes m,
+        size m,
+        tol l,
+        margin l,
+        differences s (tolerance l) (activeFree l),
+        most-difference s (tolerance l + activeFree l) u,
+        not-below (s + tolerance l + activeFree l) u,
+        not-below (u + (tolerance l + activeFree l)) s,
+        add-assoc u (tolerance l) (activeFree l),
+      )
 
 -- filing by the two tests c and d of a direction, at the lamp, gives 004's values
 by-tests : (lamp c d : Bool) (w : ℕ) → (c ≡ true → d ≡ true)
@@ -115,21 +137,39 @@ unfolding classified exchanged ofRole activeSupply activeTake two u s v
 active l m (supply h) =
     let U = m .actual .0 in
     let S = m .set .0 in
-    rw (paid-lines l m, free-lines l m, billed-lines l m, ne-eqb (m .take) (m .supply) (omega arith),
-    lt-ltb (m .take) (m .supply) h, le-ltb (m .supply) (m .take) (le-of-lt h))
+    rw (
+      paid-lines l m,
+      free-lines l m,
+      billed-lines l m,
+      ne-eqb (m .take) (m .supply) (omega arith),
+      lt-ltb (m .take) (m .supply) h,
+      le-ltb (m .supply) (m .take) (le-of-lt h),
+    )
     (by-tests (m .lamp) (ltb U (S + tolerance l)) (ltb U (S + tolerance l + activeFree l)) (absolute m)
     (further U S (tolerance l) (activeFree l)))
 active l m (take h) =
     let U = m .actual .0 in
     let S = m .set .0 in
-    rw (paid-lines l m, free-lines l m, billed-lines l m, ne-eqb (m .take) (m .supply) (omega arith),
-    lt-ltb (m .supply) (m .take) h, le-ltb (m .take) (m .supply) (le-of-lt h),
-    and-comm (ltb S (U + tolerance l + activeFree l)) (not (ltb S (U + tolerance l))))
+    rw (
+      paid-lines l m,
+      free-lines l m,
+      billed-lines l m,
+      ne-eqb (m .take) (m .supply) (omega arith),
+      lt-ltb (m .supply) (m .take) h,
+      le-ltb (m .take) (m .supply) (le-of-lt h),
+      and-comm (ltb S (U + tolerance l + activeFree l)) (not (ltb S (U + tolerance l))),
+    )
     (by-tests (m .lamp) (ltb S (U + tolerance l)) (ltb S (U + tolerance l + activeFree l)) (absolute m)
     (further S U (tolerance l) (activeFree l)))
 active l m (zero h) =
-    rw (paid-lines l m, free-lines l m, billed-lines l m, eq-eqb (m .take) (m .supply) h,
-    le-ltb (m .take) (m .supply) (omega arith), le-ltb (m .supply) (m .take) (omega arith))
+    rw (
+      paid-lines l m,
+      free-lines l m,
+      billed-lines l m,
+      eq-eqb (m .take) (m .supply) h,
+      le-ltb (m .take) (m .supply) (omega arith),
+      le-ltb (m .supply) (m .take) (omega arith),
+    )
     (record { paid-is = refl; free-is = λ _. refl; billed-is = refl })
 
 -- ---- semi-active: 004's lines over tests of sums, with ΔW_Q,lim the band b
@@ -141,6 +181,7 @@ free-margin Kv380 = refl
 module _ (b : ℕ) (l : Level) (m : Metered) where
   low : Bool
   low = ltb (m .actual .0 + semiActiveFree l) (m .set .0)
+
   high : Bool
   high = ltb (m .set .0 + semiActiveFree l) (m .actual .0)
 
@@ -153,22 +194,41 @@ module _ (b : ℕ) (l : Level) (m : Metered) where
   paid-outside : vergütetHalbaktiv b l m ≡ outside low high
   unfolding vergütetHalbaktiv outsideFreeBand outside low high
   paid-outside =
-      rw (supplies m, takes m, size m, free-margin l, difference (m .set .0) (semiActiveFree l),
-      below-difference (m .set .0) (semiActiveFree l) (m .actual .0), difference (absolute m) b)
+      rw (
+        supplies m,
+        takes m,
+        size m,
+        free-margin l,
+        difference (m .set .0) (semiActiveFree l),
+        below-difference (m .set .0) (semiActiveFree l) (m .actual .0),
+        difference (absolute m) b,
+      )
 
   billed-outside : verrechnetHalbaktiv b l m ≡ outside high low
   unfolding verrechnetHalbaktiv outsideFreeBand outside low high
   billed-outside =
-      rw (supplies m, takes m, size m, free-margin l, difference (m .set .0) (semiActiveFree l),
-      below-difference (m .set .0) (semiActiveFree l) (m .actual .0), difference (absolute m) b)
+      rw (
+        supplies m,
+        takes m,
+        size m,
+        free-margin l,
+        difference (m .set .0) (semiActiveFree l),
+        below-difference (m .set .0) (semiActiveFree l) (m .actual .0),
+        difference (absolute m) b,
+      )
 
   free-inside : freiHalbaktiv b l m
       ≡ brace ((ltb (absolute m) b, pos (absolute m)) ∷ (ltb b (absolute m) && (not low && not high), pos (absolute m)) ∷ [])
   unfolding freiHalbaktiv low high
   free-inside =
-      rw (size m, free-margin l, difference (m .set .0) (semiActiveFree l),
-      most-of-difference (m .set .0) (semiActiveFree l) (m .actual .0),
-      not-below (m .set .0) (m .actual .0 + semiActiveFree l), not-below (m .actual .0) (m .set .0 + semiActiveFree l))
+      rw (
+        size m,
+        free-margin l,
+        difference (m .set .0) (semiActiveFree l),
+        most-of-difference (m .set .0) (semiActiveFree l) (m .actual .0),
+        not-below (m .set .0) (m .actual .0 + semiActiveFree l),
+        not-below (m .actual .0) (m .set .0 + semiActiveFree l),
+      )
 
 -- the lines of 01 for an energy w and a band b, by whether the exchange helps or hurts the voltage
 banded : ℕ → ℕ → Bool → Bool → Shares
@@ -233,24 +293,45 @@ semi-active : (b : Grains) (l : Level) (m : Metered) → Sign m
     (verrechnetHalbaktiv (b .0) l m)
 unfolding classified exchanged ofRole semiActive helpsBySupply helpsByTake outside BandedAgrees banded low high
 semi-active b l m (supply h) =
-    rw (paid-outside (b .0) l m, free-inside (b .0) l m, billed-outside (b .0) l m,
-    not-below (m .set .0) (m .actual .0 + semiActiveFree l), not-below (m .actual .0) (m .set .0 + semiActiveFree l),
-    ne-eqb (m .take) (m .supply) (omega arith), lt-ltb (m .take) (m .supply) h, le-ltb (m .supply) (m .take) (le-of-lt h))
+    rw (
+      paid-outside (b .0) l m,
+      free-inside (b .0) l m,
+      billed-outside (b .0) l m,
+      not-below (m .set .0) (m .actual .0 + semiActiveFree l),
+      not-below (m .actual .0) (m .set .0 + semiActiveFree l),
+      ne-eqb (m .take) (m .supply) (omega arith),
+      lt-ltb (m .take) (m .supply) h,
+      le-ltb (m .supply) (m .take) (le-of-lt h),
+    )
     (by-band (absolute m) (b .0) (low (b .0) l m) (high (b .0) l m) (apart (b .0) l m))
 semi-active b l m (take h) =
-    rw (paid-outside (b .0) l m, free-inside (b .0) l m, billed-outside (b .0) l m,
-    not-below (m .set .0) (m .actual .0 + semiActiveFree l), not-below (m .actual .0) (m .set .0 + semiActiveFree l),
-    ne-eqb (m .take) (m .supply) (omega arith), lt-ltb (m .supply) (m .take) h, le-ltb (m .take) (m .supply) (le-of-lt h),
-    and-comm (not (low (b .0) l m)) (not (high (b .0) l m)))
+    rw (
+      paid-outside (b .0) l m,
+      free-inside (b .0) l m,
+      billed-outside (b .0) l m,
+      not-below (m .set .0) (m .actual .0 + semiActiveFree l),
+      not-below (m .actual .0) (m .set .0 + semiActiveFree l),
+      ne-eqb (m .take) (m .supply) (omega arith),
+      lt-ltb (m .supply) (m .take) h,
+      le-ltb (m .take) (m .supply) (le-of-lt h),
+      and-comm (not (low (b .0) l m)) (not (high (b .0) l m)),
+    )
     (by-band (absolute m) (b .0) (high (b .0) l m) (low (b .0) l m) (λ p q. apart (b .0) l m q p))
 semi-active b l m (zero h) =
     let none-exchanged : absolute m ≡ 0 = unfold absolute in omega arith in
-    rw (paid-outside (b .0) l m, free-inside (b .0) l m, billed-outside (b .0) l m, eq-eqb (m .take) (m .supply) h,
-    le-ltb (m .take) (m .supply) (omega arith), le-ltb (m .supply) (m .take) (omega arith), none-exchanged)
+    rw (
+      paid-outside (b .0) l m,
+      free-inside (b .0) l m,
+      billed-outside (b .0) l m,
+      eq-eqb (m .take) (m .supply) h,
+      le-ltb (m .take) (m .supply) (omega arith),
+      le-ltb (m .supply) (m .take) (omega arith),
+      none-exchanged,
+    )
     (record {
       paid-is = no-energy (ltb 0 (b .0)) false;
       free-is = λ _. no-energy (ltb 0 (b .0)) (ltb (b .0) 0 && (not (low (b .0) l m) && not (high (b .0) l m)));
-      billed-is = no-energy (ltb 0 (b .0)) false
+      billed-is = no-energy (ltb 0 (b .0)) false;
     })
 
 -- ---- the theorem
@@ -277,7 +358,7 @@ agrees Active l m t =
       free = e .free-is;
       billed = e .billed-is;
       credit = amount-of-paid Active l m t (e .paid-is);
-      debit = amount-of-billed Active l m t (e .billed-is)
+      debit = amount-of-billed Active l m t (e .billed-is);
     }
 agrees (SemiActive b) l m t =
     let e = semi-active b l m (sign m) in
@@ -286,5 +367,5 @@ agrees (SemiActive b) l m t =
       free = e .free-is;
       billed = e .billed-is;
       credit = amount-of-paid (SemiActive b) l m t (e .paid-is);
-      debit = amount-of-billed (SemiActive b) l m t (e .billed-is)
+      debit = amount-of-billed (SemiActive b) l m t (e .billed-is);
     }

@@ -36,7 +36,7 @@ module _ (l : List ℕ) (at n : ℕ) (room : at + 8 ≤ length l) where
       → set bytes (at + i) (n / 2 ^ (56 - 8 * i) % 256) ≡ paste l at (bigEndian 8 n) (i + 1)
   put-turn i bytes h e =
       let byte : n / 2 ^ (56 - 8 * i) % 256 ≡ getD (bigEndian 8 n) i 0 =
-          ap (λ (s : ℕ). n / 2 ^ s % 256) (omega arith) ∙ sym (big-endian-at 8 n i h)
+      ap (λ (s : ℕ). n / 2 ^ s % 256) (omega arith) ∙ sym (big-endian-at 8 n i h)
       in
       rw (add-one, e, byte) (paste-suc l at (bigEndian 8 n) i 0 (omega arith) (omega (arith, eight)))
 

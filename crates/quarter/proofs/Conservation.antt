@@ -40,8 +40,8 @@ semi-active-total l b w u s helping = go (leb w b) refl (leb s (u + semiActiveFr
 
     go : (within : Bool) → leb w b ≡ within → (between helped : Bool)
         → total (cond within (filed Free (grains w) none)
-          (cond between (filed Free (grains w) none)
-          (cond helped (filed Paid (grains (w - b)) (grains b)) (filed Billed (grains (w - b)) (grains b))))) ≡ w
+        (cond between (filed Free (grains w) none)
+        (cond helped (filed Paid (grains (w - b)) (grains b)) (filed Billed (grains (w - b)) (grains b))))) ≡ w
     go true p between helped = all-filed Free w
     go false p true helped = all-filed Free w
     go false p false true = above Paid p

@@ -1,20 +1,18 @@
--- A take is classified as a supply with the two voltages exchanged, and a quarter-hour without net energy has no shares.
+-- A take is classified as a supply with the two voltages exchanged.
 -- Assumes nothing.
-use Prim.Native.Nat.{ℕ, _+_, _-_, _<_, _≤_}
-use mathlib.Core.Path.{_≡_, refl, sym, ap}
+use Prim.Native.Nat.{ℕ, _+_, _-_, _<_}
+use mathlib.Core.Path.{_≡_, refl}
 use mathlib.Core.Bool.{Bool, true, false, _&&_}
 use native.Mathlib.Nat.{add-comm, le-of-lt}
 use native.Mathlib.Omega.{arith}
-use borrow.Author.Tests.{lt-ltb, le-ltb, eq-eqb, ne-eqb}
+use borrow.Author.Tests.{lt-ltb, le-ltb, ne-eqb}
 use lib.Dec.{leb}
-use Rattle.quantity.specs.declared.Grains.{Grains}
 use Rattle.quarter.specs.declared.Role.{Role}
 use Rattle.quarter.specs.declared.Role.the-variants.{Active, SemiActive}
 use Rattle.quarter.specs.declared.Level.{Level}
 use Rattle.quarter.specs.declared.Metered.{Metered}
-use Rattle.quarter.specs.declared.Class.the-variants.{Free}
 use Rattle.quarter.specs.Reading.{activeSupply, activeTake, semiActiveFree, semiActive, helpsBySupply, helpsByTake}
-use Rattle.quarter.specs.Reading.{filed, none, absolute, connected, ofRole, exchanged, classified}
+use Rattle.quarter.specs.Reading.{absolute, ofRole, exchanged, classified}
 
 -- the quarter-hour with its directions and its voltages exchanged
 abbrev mirror : Metered → Metered
@@ -43,20 +41,13 @@ mirrored-role (SemiActive b) l m less =
     rw (mirrored-absolute m, lt-ltb (m .supply) (m .take) less, le-ltb (m .take) (m .supply) (le-of-lt less))
     (mirrored-semi-active l (b .0) (absolute m) (m .actual .0) (m .set .0))
 
-not-zero : (role : Role) (l : Level) (m : Metered) → (m .take ≡ m .supply → ⊥) → exchanged role l m ≡ classified role l m
-unfolding classified
-not-zero role l m h = rw (ne-eqb (m .take) (m .supply) h)
-
-pub of-supply : (role : Role) (l : Level) (m : Metered) → m .take < m .supply → exchanged role l m ≡ classified role l m
-of-supply role l m less = not-zero role l m (omega arith)
-
-pub of-take : (role : Role) (l : Level) (m : Metered) → m .supply < m .take
-    → exchanged role l (mirror m) ≡ classified role l m
-unfolding exchanged
-of-take role l m less =
-    rw (mirrored-absolute m, mirrored-role role l m less) (not-zero role l m (omega arith))
-
-pub of-zero : (role : Role) (l : Level) (m : Metered) (x y : Grains) → x ≡ none → y ≡ none → m .supply ≤ m .take → m .take ≤ m .supply
-    → filed Free x y ≡ classified role l m
-unfolding classified
-of-zero role l m x y ex ey p q = rw (ex, ey, eq-eqb (m .take) (m .supply) (omega arith))
+pub mirrored-classified : (role : Role) (l : Level) (m : Metered) → m .supply < m .take
+    → classified role l (mirror m) ≡ classified role l m
+unfolding classified exchanged
+mirrored-classified role l m less =
+    rw (
+      ne-eqb (m .supply) (m .take) (omega arith),
+      ne-eqb (m .take) (m .supply) (omega arith),
+      mirrored-absolute m,
+      mirrored-role role l m less,
+    )

@@ -1,23 +1,25 @@
 -- The lines of document 01 for a supply, each from the tests that lead to it.
 -- Assumes nothing.
-use Prim.Native.Nat.{ℕ, _+_, _-_, _*_, _<_}
-use mathlib.Core.Path.{_≡_, refl, sym, _∙_, ap}
-use mathlib.Core.Bool.{Bool, true, false}
-use native.Mathlib.Nat.{add-assoc}
+use Prim.Native.Nat.{ℕ, _+_, _-_, _*_, _≤_, _<_, zero-le}
+use mathlib.Core.Path.{_≡_, refl, sym, ap, ap₂, _∙_}
+use mathlib.Core.Bool.{Bool, true, false, cond}
+use native.Mathlib.Nat.{add-assoc, sub-zero}
 use native.Mathlib.Omega.{arith}
-use borrow.Author.Tests.{ltb-true, ltb-false, lt-ltb, le-leb, lt-leb}
-use lib.Dec.{ltb, leb}
+use borrow.Author.Tests.{ltb-true, ltb-false, lt-ltb, le-leb, lt-leb, eqb-true, eqb-false}
+use lib.Dec.{ltb, leb, eqb}
 use Rattle.quantity.specs.declared.Grains.{Grains}
 use Rattle.quantity.specs.Quantity.{perKvarh, grains, capped}
 use Rattle.quarter.specs.declared.Role.{Role}
 use Rattle.quarter.specs.declared.Role.the-variants.{Active, SemiActive}
-use Rattle.quarter.specs.declared.Metered.{Metered}
-use Rattle.quarter.specs.declared.Class.{Class}
 use Rattle.quarter.specs.declared.Level.{Level}
 use Rattle.quarter.specs.declared.Level.the-variants.{Kv220, Kv380}
+use Rattle.quarter.specs.declared.Metered.{Metered}
+use Rattle.quarter.specs.declared.Shares.{Shares}
+use Rattle.quarter.specs.declared.Class.{Class}
 use Rattle.quarter.specs.declared.Class.the-variants.{Paid, Free, Billed, Disconnected}
-use Rattle.quarter.specs.Reading.{tolerance, activeFree, activeSupply, semiActiveFree, semiActive, helpsBySupply}
-use Rattle.quarter.specs.Reading.{filed, none, absolute, connected, ofRole, exchanged}
+use Rattle.quarter.specs.Reading.{tolerance, activeFree, activeSupply, semiActiveFree, helpsBySupply, helpsByTake, semiActive}
+use Rattle.quarter.specs.Reading.{filed, shares, none, absolute, connected, ofRole, exchanged, classified}
+use Rattle.quarter.specs.Steps.{semiActiveSupply, allowanceOf}
 
 -- ---- active: b₁ and b₂ are the tests of U against S with the tolerance t, and with t and the free margin f
 
@@ -46,49 +48,131 @@ module _ (l : Level) (u s t : ℕ) (b₁ : Bool) (et : t ≡ tolerance l) (e₁ 
     unfolding activeSupply
     active-billed p q = rw (← first, ← second, p, q)
 
--- ---- semi-active: the tests are those of the energy w against the band b, and of the voltages with the free margin f
+-- ---- semi-active: the tests are those of the voltages, with the free margin f
 
-module _ (l : Level) (b w u s f : ℕ) (ef : f ≡ semiActiveFree l) where
-  pub within-band : ltb b w ≡ false → filed Free (grains w) none ≡ semiActive l b w u s (helpsBySupply l u s)
-  unfolding semiActive
-  within-band p = rw (le-leb w b (ltb-false b w p))
+module _ (l : Level) (u s f : ℕ) (b₁ : Bool) (ef : f ≡ semiActiveFree l) (e₁ : b₁ ≡ ltb (u + f) s) where
+  low : b₁ ≡ helpsBySupply l u s
+  unfolding helpsBySupply
+  low = e₁ ∙ ap (λ (x : ℕ). ltb (u + x) s) ef
 
-  module _ (above : ltb b w ≡ true) where
-    pub paid-above : ltb (u + f) s ≡ true → filed Paid (grains (w - b)) (grains b) ≡ semiActive l b w u s (helpsBySupply l u s)
-    unfolding semiActive helpsBySupply
-    paid-above p =
-        rw (← ef, lt-leb w b (ltb-true b w above), lt-leb s (u + f) (ltb-true (u + f) s p), p)
+  pub semi-active-paid : (above : Bool) → above ≡ true → b₁ ≡ true → Paid ≡ semiActiveSupply l above u s
+  unfolding semiActiveSupply
+  semi-active-paid above a p = rw (a, ← low, p)
 
-    pub billed-above : ltb (u + f) s ≡ false → ltb (s + f) u ≡ true
-        → filed Billed (grains (w - b)) (grains b) ≡ semiActive l b w u s (helpsBySupply l u s)
-    unfolding semiActive helpsBySupply
-    billed-above p q =
-        rw (← ef, lt-leb w b (ltb-true b w above), le-leb s (u + f) (ltb-false (u + f) s p), lt-leb u (s + f) (ltb-true (s + f) u q), p)
+  module _ (b₂ : Bool) (e₂ : b₂ ≡ ltb (s + f) u) where
+    high : b₂ ≡ helpsByTake l u s
+    unfolding helpsByTake
+    high = e₂ ∙ ap (λ (x : ℕ). ltb (s + x) u) ef
 
-    pub free-above : ltb (u + f) s ≡ false → ltb (s + f) u ≡ false
-        → filed Free (grains w) none ≡ semiActive l b w u s (helpsBySupply l u s)
-    unfolding semiActive helpsBySupply
-    free-above p q =
-        rw (← ef, lt-leb w b (ltb-true b w above), le-leb s (u + f) (ltb-false (u + f) s p), le-leb u (s + f) (ltb-false (s + f) u q))
+    pub semi-active-billed : (above : Bool) → above ≡ true → b₁ ≡ false → b₂ ≡ true → Billed ≡ semiActiveSupply l above u s
+    unfolding semiActiveSupply
+    semi-active-billed above a p q = rw (a, ← low, ← high, p, q)
 
--- ---- both roles: m is a supply of w grains, n is nothing, and `lit` says whether the energy counts
+    pub semi-active-free : (above : Bool) → above ≡ true → b₁ ≡ false → b₂ ≡ false → Free ≡ semiActiveSupply l above u s
+    unfolding semiActiveSupply
+    semi-active-free above a p q = rw (a, ← low, ← high, p, q)
 
-module _ (role : Role) (l : Level) (m : Metered) (w n : Grains) (lit : Bool) (less : m .take < m .supply)
+pub within-band : (l : Level) (u s : ℕ) (above : Bool) → above ≡ false → Free ≡ semiActiveSupply l above u s
+unfolding semiActiveSupply
+within-band l u s above a = rw a
+
+-- the class and the allowance make 01's lines
+split : Class → Grains → ℕ → Shares
+split k b w = filed k (grains (w - allowanceOf k b .0)) (allowanceOf k b)
+
+module _ (l : Level) (b : Grains) (w u s : ℕ) where
+  by-class : (above low high : Bool) → ltb (b .0) w ≡ above → ltb (u + semiActiveFree l) s ≡ low → ltb (s + semiActiveFree l) u ≡ high
+      → split (cond above (cond low Paid (cond high Billed Free)) Free) b w ≡ semiActive l (b .0) w u s low
+  unfolding semiActive split
+  by-class false low high a p q = rw (le-leb w (b .0) (ltb-false (b .0) w a), sub-zero w)
+  by-class true true high a p q =
+      rw (lt-leb w (b .0) (ltb-true (b .0) w a), lt-leb s (u + semiActiveFree l) (ltb-true (u + semiActiveFree l) s p))
+  by-class true false true a p q =
+      rw (
+        lt-leb w (b .0) (ltb-true (b .0) w a),
+        le-leb s (u + semiActiveFree l) (ltb-false (u + semiActiveFree l) s p),
+        lt-leb u (s + semiActiveFree l) (ltb-true (s + semiActiveFree l) u q),
+      )
+  by-class true false false a p q =
+      rw (
+        lt-leb w (b .0) (ltb-true (b .0) w a),
+        le-leb s (u + semiActiveFree l) (ltb-false (u + semiActiveFree l) s p),
+        le-leb u (s + semiActiveFree l) (ltb-false (s + semiActiveFree l) u q),
+        sub-zero w,
+      )
+
+  split-supply : split (semiActiveSupply l (ltb (b .0) w) u s) b w ≡ semiActive l (b .0) w u s (helpsBySupply l u s)
+  unfolding semiActiveSupply helpsBySupply helpsByTake
+  split-supply =
+      by-class (ltb (b .0) w) (ltb (u + semiActiveFree l) s) (ltb (s + semiActiveFree l) u) refl refl refl
+
+-- ---- both roles: m is a supply of w grains or nothing, n is nothing, and `lit` says whether the energy counts
+
+no-shares : Shares
+no-shares = shares none none none none none
+
+nothing-filed : (k : Class) → filed k none none ≡ no-shares
+unfolding no-shares
+nothing-filed Paid = refl
+nothing-filed Free = refl
+nothing-filed Billed = refl
+nothing-filed Disconnected = refl
+
+-- what holds of a supply, and of no net energy, holds of both
+either : (role : Role) (l : Level) (m : Metered) (s : Shares) → m .take ≤ m .supply
+    → (m .take < m .supply → s ≡ exchanged role l m) → (m .take ≡ m .supply → s ≡ no-shares) → s ≡ classified role l m
+unfolding classified no-shares
+either role l m s le f z = go (eqb (m .take) (m .supply)) refl
+  where
+    go : (b : Bool) → eqb (m .take) (m .supply) ≡ b
+        → s ≡ cond b (shares none none none none none) (exchanged role l m)
+    go true p = z (eqb-true (m .take) (m .supply) p)
+    go false p = let apart : m .take ≡ m .supply → ⊥ = eqb-false (m .take) (m .supply) p in f (omega arith)
+
+module _ (role : Role) (l : Level) (m : Metered) (w n : Grains) (lit : Bool) (le : m .take ≤ m .supply)
     (ew : w .0 ≡ perKvarh * (m .supply - m .take)) (en : n ≡ none) (el : lit ≡ connected role (m .lamp)) where
-  energy : w .0 ≡ absolute m
+  energy : w ≡ grains (absolute m)
   unfolding absolute
-  energy = omega arith
+  energy = ap grains (omega arith)
 
-  pub unlit : lit ≡ false → filed Disconnected w n ≡ exchanged role l m
-  unfolding exchanged
-  unlit p = rw (← el, p, en, ← energy)
+  no-energy : m .take ≡ m .supply → w ≡ none
+  no-energy z = ap grains (omega arith)
+
+  all-in : (k : Class) → (m .take < m .supply → filed k (grains (absolute m)) none ≡ exchanged role l m)
+      → filed k w n ≡ classified role l m
+  all-in k f =
+      either role l m (filed k w n) le
+      (λ less. ap₂ (filed k) energy en ∙ f less)
+      (λ z. ap₂ (filed k) (no-energy z) en ∙ nothing-filed k)
+
+  pub unlit : lit ≡ false → filed Disconnected w n ≡ classified role l m
+  unlit p = all-in Disconnected (λ less. unfold exchanged in rw (← el, p))
 
   pub lit-active : role ≡ Active → lit ≡ true → (k : Class) → k ≡ activeSupply l (m .actual .0) (m .set .0)
-      → filed k w n ≡ exchanged role l m
-  unfolding exchanged ofRole
-  lit-active r p k e = rw (← el, p, en, r, lt-ltb (m .take) (m .supply) less, ← energy, e)
+      → filed k w n ≡ classified role l m
+  lit-active r p k e =
+      all-in k (λ less. unfold exchanged ofRole in rw (← el, p, r, lt-ltb (m .take) (m .supply) less, e))
 
-  pub lit-semi-active : (b : Grains) → role ≡ SemiActive b → lit ≡ true
+  semi-active-zero : (b : Grains) → m .take ≡ m .supply
+      → semiActive l (b .0) (w .0) (m .actual .0) (m .set .0) (helpsBySupply l (m .actual .0) (m .set .0)) ≡ no-shares
+  unfolding semiActive no-shares
+  semi-active-zero b z = let nought : w .0 ≡ 0 = ap (λ (g : Grains). g .0) (no-energy z) in rw (nought, le-leb 0 (b .0) zero-le)
+
+  semi-active-supply : (b : Grains) → role ≡ SemiActive b → lit ≡ true → m .take < m .supply
       → semiActive l (b .0) (w .0) (m .actual .0) (m .set .0) (helpsBySupply l (m .actual .0) (m .set .0)) ≡ exchanged role l m
   unfolding exchanged ofRole
-  lit-semi-active b r p = rw (← el, p, r, lt-ltb (m .take) (m .supply) less, ← energy)
+  semi-active-supply b r p less = rw (← el, p, r, lt-ltb (m .take) (m .supply) less, energy)
+
+  pub lit-semi-active : (b : Grains) → role ≡ SemiActive b → lit ≡ true → (above : Bool) → above ≡ ltb (b .0) (w .0)
+      → (k : Class) → k ≡ semiActiveSupply l above (m .actual .0) (m .set .0) → (a : Grains) → a ≡ allowanceOf k b
+      → (rest : Grains) → rest .0 ≡ w .0 - a .0 → filed k rest a ≡ classified role l m
+  unfolding split
+  lit-semi-active b r p above ea k ek a eal rest er =
+      let U = m .actual .0 in
+      let S = m .set .0 in
+      let kind : k ≡ semiActiveSupply l (ltb (b .0) (w .0)) U S = ek ∙ ap (λ (x : Bool). semiActiveSupply l x U S) ea in
+      ap (λ (x : Grains). filed k x a) (ap grains er)
+      ∙ ap (λ (x : Grains). filed k (grains (w .0 - x .0)) x) eal
+      ∙ ap (λ (x : Class). split x b (w .0)) kind
+      ∙ split-supply l b (w .0) U S
+      ∙ either role l m (semiActive l (b .0) (w .0) U S (helpsBySupply l U S)) le (semi-active-supply b r p) (semi-active-zero b)

@@ -73,8 +73,9 @@ callNumber a bytes = first ((5, not (inRange a)) ∷ (13, ltb (length bytes) 40)
 -- the number, and the slice afterwards: "into the first 40 bytes of a lent byte slice; its other bytes stay"; "both [numbers]
 -- leave it untouched"
 unfoldable pub called : Arguments → List ℕ → ℕ × List ℕ
-called a bytes =
-    (callNumber a bytes,
-    cond (eqb (callNumber a bytes) 0)
-    (image (classified (roleOf (a .role) (a .band)) (levelOf (a .level)) (meteredOf a)) ++ drop 40 bytes)
-    bytes)
+called a bytes = (
+  callNumber a bytes,
+  cond (eqb (callNumber a bytes) 0)
+      (image (classified (roleOf (a .role) (a .band)) (levelOf (a .level)) (meteredOf a)) ++ drop 40 bytes)
+      bytes,
+)

@@ -34,7 +34,7 @@ gives role level m p f b a d =
       role = role;
       level = level;
       metered = m;
-      shares = shares (grains p) (grains f) (grains b) (grains a) (grains d)
+      shares = shares (grains p) (grains f) (grains b) (grains a) (grains d);
     }
 
 -- "Point 1 above": semi-active, "one transformer 1200, 1000"

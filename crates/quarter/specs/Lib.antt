@@ -4,3 +4,4 @@ pub mod Edges
 pub mod Reading
 pub mod Refusals
 pub mod Source
+pub mod Steps

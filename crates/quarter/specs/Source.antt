@@ -68,10 +68,16 @@ vergütetAktiv l m =
 unfoldable pub freiAktiv : Level → Metered → ℤ
 freiAktiv l m =
     brace
-    ((ltZ (WQ m) (pos 0)
-      && (leZ (Usoll m +ℤ ΔUTol l) (Uist m) && ltZ (Uist m) (Usoll m +ℤ ΔUTol l +ℤ ΔUFreiAktiv l)), |WQ| m *ℤ LL (m .lamp))
-    ∷ (ltZ (pos 0) (WQ m)
-      && (ltZ (Usoll m -ℤ ΔUTol l -ℤ ΔUFreiAktiv l) (Uist m) && leZ (Uist m) (Usoll m -ℤ ΔUTol l)), |WQ| m *ℤ LL (m .lamp))
+    ((
+      ltZ (WQ m) (pos 0)
+          && (leZ (Usoll m +ℤ ΔUTol l) (Uist m) && ltZ (Uist m) (Usoll m +ℤ ΔUTol l +ℤ ΔUFreiAktiv l)),
+      |WQ| m *ℤ LL (m .lamp),
+    )
+    ∷ (
+      ltZ (pos 0) (WQ m)
+          && (ltZ (Usoll m -ℤ ΔUTol l -ℤ ΔUFreiAktiv l) (Uist m) && leZ (Uist m) (Usoll m -ℤ ΔUTol l)),
+      |WQ| m *ℤ LL (m .lamp),
+    )
     ∷ [])
 
 -- 3.2: W_Q,verrechnet of the active role
@@ -87,8 +93,11 @@ unfoldable pub freiHalbaktiv : ℕ → Level → Metered → ℤ
 freiHalbaktiv lim l m =
     brace
     ((ltZ (|WQ| m) (pos lim), |WQ| m)
-    ∷ (ltZ (pos lim) (|WQ| m)
-      && (leZ (Usoll m -ℤ ΔUFreiHalbaktiv l) (Uist m) && leZ (Uist m) (Usoll m +ℤ ΔUFreiHalbaktiv l)), |WQ| m)
+    ∷ (
+      ltZ (pos lim) (|WQ| m)
+          && (leZ (Usoll m -ℤ ΔUFreiHalbaktiv l) (Uist m) && leZ (Uist m) (Usoll m +ℤ ΔUFreiHalbaktiv l)),
+      |WQ| m,
+    )
     ∷ [])
 
 -- 4.1: "Die ausgetauschte Netto-Blindenergie pro Viertelstunde innerhalb des Freibandes wird weder vergütet noch verrechnet":

@@ -42,7 +42,10 @@ pub extern "C" fn reactive_classify(
         actual: Voltage::of(actual),
         set: Voltage::of(set),
     };
-    store(classify(role_of(role, band), level_of(level), metered), shares);
+    store(
+        classify(role_of(role, band), level_of(level), metered),
+        shares,
+    );
     0
 }
 

@@ -10,10 +10,11 @@ use crate::Shares;
 use quantity::Grains;
 use quantity::Voltage;
 ghost use mathlib.Core.Path.{_≡_};
-ghost use Prim.Native.Nat.{_<_};
-ghost use Rattle.quarter.specs.Reading.{classified, exchanged, connected, filed};
+ghost use Prim.Native.Nat.{_≤_};
+ghost use Rattle.quarter.specs.Reading.{classified, connected, filed};
 ghost use Rattle.quarter.specs.Reading.{tolerance, activeFree, activeSupply};
-ghost use Rattle.quarter.specs.Reading.{semiActiveFree, semiActive, helpsBySupply};
+ghost use Rattle.quarter.specs.Reading.{semiActiveFree};
+ghost use Rattle.quarter.specs.Steps.{semiActiveSupply, allowanceOf};
 
 // The five shares of one quarter-hour.
 pub fn classify(role: Role, level: Level, metered: Metered) -> Shares
@@ -21,29 +22,26 @@ pub fn classify(role: Role, level: Level, metered: Metered) -> Shares
 {
     let take = metered.take;
     let supply = metered.supply;
-    let actual = metered.actual;
-    let set = metered.set;
-    let lamp = metered.lamp;
-    if take < supply {
+    if take <= supply {
         return classify_supply(role, level, metered);
     }
-    if supply < take {
-        let mirrored = Metered {
-            lamp,
-            take: supply,
-            supply: take,
-            actual: set,
-            set: actual,
-        };
-        return classify_supply(role, level, mirrored);
-    }
-    file(Class::Free, Grains::of(0), Grains::of(0))
+    let actual = metered.actual;
+    let set = metered.set;
+    let mirrored = Metered {
+        lamp: metered.lamp,
+        take: supply,
+        supply: take,
+        actual: set,
+        set: actual,
+    };
+    classify_supply(role, level, mirrored)
 }
 
-// The five shares of a quarter-hour in which more is supplied than taken.
+// The five shares of a quarter-hour in which no less is supplied than taken. Without net energy
+// every share is nothing, whatever its class.
 fn classify_supply(role: Role, level: Level, metered: Metered) -> Shares
-    requires { ⌜ metered .take < metered .supply ⌝ }
-    ensures { λ r. ⌜ r ≡ exchanged role level metered ⌝ }
+    requires { ⌜ metered .take ≤ metered .supply ⌝ }
+    ensures { λ r. ⌜ r ≡ classified role level metered ⌝ }
 {
     let actual = metered.actual;
     let set = metered.set;
@@ -54,7 +52,11 @@ fn classify_supply(role: Role, level: Level, metered: Metered) -> Shares
     }
     match role {
         Role::Active => file(active(level, actual, set), energy, none),
-        Role::SemiActive(band) => semi_active(level, band, energy, actual, set),
+        Role::SemiActive(band) => {
+            let class = semi_active(level, energy.exceeds(band), actual, set);
+            let allowance = allowance(class, band);
+            file(class, energy.minus(allowance), allowance)
+        }
     }
 }
 
@@ -82,22 +84,34 @@ fn active(level: Level, actual: Voltage, set: Voltage) -> Class
     Class::Billed
 }
 
-// The shares of a supply from a semi-active point.
-fn semi_active(level: Level, band: Grains, energy: Grains, actual: Voltage, set: Voltage) -> Shares
-    ensures { λ r. ⌜ r ≡ semiActive level (band .0) (energy .0) (actual .0) (set .0) (helpsBySupply level (actual .0) (set .0)) ⌝ }
+// The class of a supply from a semi-active point, with whether it exceeds the band.
+fn semi_active(level: Level, above: bool, actual: Voltage, set: Voltage) -> Class
+    ensures { λ r. ⌜ r ≡ semiActiveSupply level above (actual .0) (set .0) ⌝ }
 {
     let margin = semi_active_free(level);
-    let none = Grains::of(0);
-    if !energy.exceeds(band) {
-        return file(Class::Free, energy, none);
+    if !above {
+        return Class::Free;
     }
     if set.is_above(actual, margin) {
-        return file(Class::Paid, energy.minus(band), band);
+        return Class::Paid;
     }
     if actual.is_above(set, margin) {
-        return file(Class::Billed, energy.minus(band), band);
+        return Class::Billed;
     }
-    file(Class::Free, energy, none)
+    Class::Free
+}
+
+// What of the band is left out of a class: all of it, where the energy is paid or billed.
+fn allowance(class: Class, band: Grains) -> Grains
+    ensures { λ r. ⌜ r ≡ allowanceOf class band ⌝ }
+{
+    let none = Grains::of(0);
+    match class {
+        Class::Paid => band,
+        Class::Free => none,
+        Class::Billed => band,
+        Class::Disconnected => none,
+    }
 }
 
 // An energy under its class, beside an allowance.

@@ -4,9 +4,11 @@ use crate::print::figure;
 use crate::print::last_figure;
 use quantity::Grains;
 use quantity::Voltage;
+use quarter::Amounts;
 use quarter::Level;
 use quarter::Metered;
 use quarter::Role;
+use quarter::Shares;
 use quarter::Tariffs;
 
 // Role (1 semi-active), level (1 is 380 kV), band, lamp, take, supply, actual and set voltage.
@@ -68,19 +70,26 @@ fn show(q: [u32; 8]) {
 
 fn show_worth(role: Role, level: Level, metered: Metered) {
     let shares = quarter::classify(role, level, metered);
-    let worth = quarter::value(shares, tariffs_of(role));
+    show_shares(shares);
+    show_amounts(quarter::value(shares, tariffs_of(role)));
+}
+
+fn show_shares(shares: Shares) {
     let paid = shares.paid;
     let free = shares.free;
     let billed = shares.billed;
     let allowance = shares.allowance;
     let disconnected = shares.disconnected;
-    let credit = worth.credit;
-    let debit = worth.debit;
     figure(paid.count());
     figure(free.count());
     figure(billed.count());
     figure(allowance.count());
     figure(disconnected.count());
+}
+
+fn show_amounts(amounts: Amounts) {
+    let credit = amounts.credit;
+    let debit = amounts.debit;
     figure(credit.count());
     last_figure(debit.count());
 }

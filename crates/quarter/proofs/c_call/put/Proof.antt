@@ -54,7 +54,7 @@ slice-write-bytes : tie.Need-slice-write-bytes Inv-loop μ-loop
 slice-write-bytes c =
     let a = c .before .before .before .before .args in
     let e : length (c .before .loop .bytes) ≡ length (now (a .bytes)) =
-        put-length (now (a .bytes)) (a .at) (c .before .before .count .result) (c .before .before .before .before .pre) (c .before .loop .i) _ (omega arith) (c .before .loop .inv .1)
+    put-length (now (a .bytes)) (a .at) (c .before .before .count .result) (c .before .before .before .before .pre) (c .before .loop .i) _ (omega arith) (c .before .loop .inv .1)
     in
     omega arith
 
@@ -69,9 +69,10 @@ loop-less c = search needs
 -- src/c_call.rt:107:5
 loop-again : tie.Need-loop-again Inv-loop μ-loop
 loop-again c =
-    let a = c .before .before .before .before .args in
-    (search needs,
-    put-turn (now (a .bytes)) (a .at) (c .before .before .count .result) (c .before .before .before .before .pre) (c .before .loop .i) _ (c .loop-test .taken) (c .before .loop .inv .1))
+    let a = c .before .before .before .before .args in (
+      search needs,
+      put-turn (now (a .bytes)) (a .at) (c .before .before .count .result) (c .before .before .before .before .pre) (c .before .loop .i) _ (c .loop-test .taken) (c .before .loop .inv .1),
+    )
 
 -- src/c_call.rt:102:1
 same-length : tie.Need-same-length Inv-loop μ-loop

@@ -20,7 +20,7 @@ both-amounts : (s : Shares) (t : Tariffs) (rate : ℕ) (c d : Amount) → c .0 �
 unfolding both valued creditOf debitOf
 both-amounts s t rate c d p r q =
     let e : d .0 ≡ capped 64 (s .billed .0 * (t .billing + t .penalty)) =
-        q ∙ ap (λ (n : ℕ). capped 64 (s .billed .0 * n)) r
+    q ∙ ap (λ (n : ℕ). capped 64 (s .billed .0 * n)) r
     in
     λ i. record { credit = record { 0 = p i }; debit = record { 0 = e i } }
 
