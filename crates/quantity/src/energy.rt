@@ -10,36 +10,42 @@ ghost use lib.Dec.{ltb};
 ghost use Rattle.quantity.specs.Quantity.{perKvarh, capped, grains};
 
 impl Grains {
+    // A number of grains.
     pub fn of(count: u64) -> Grains
         ensures { λ r. ⌜ r ≡ grains count ⌝ }
     {
         Grains(count)
     }
 
+    // Energy given in kvarh.
     pub fn of_kvarh(kvarh: u32) -> Grains
         ensures { λ r. ⌜ r .0 ≡ perKvarh * kvarh ⌝ }
     {
         Grains(1600 * (kvarh as u64))
     }
 
+    // How many grains.
     pub fn count(self) -> u64
         ensures { λ r. ⌜ r ≡ self .0 ⌝ }
     {
         self.0
     }
 
+    // The sum.
     pub fn plus(self, other: Grains) -> Grains
         ensures { λ r. ⌜ r .0 ≡ capped 64 (self .0 + other .0) ⌝ }
     {
         Grains(sum(self.0, other.0))
     }
 
+    // The difference.
     pub fn minus(self, other: Grains) -> Grains
         ensures { λ r. ⌜ r .0 ≡ self .0 - other .0 ⌝ }
     {
         Grains(difference(self.0, other.0))
     }
 
+    // Whether this energy is more than the other.
     pub fn exceeds(self, other: Grains) -> bool
         ensures { λ r. ⌜ r ≡ ltb (other .0) (self .0) ⌝ }
     {

@@ -6,12 +6,14 @@ ghost use Prim.Native.Nat.{_+_};
 ghost use Rattle.quantity.specs.Quantity.{capped, rappen};
 
 impl Amount {
+    // How many, unrounded.
     pub fn count(self) -> u64
         ensures { λ r. ⌜ r ≡ self .0 ⌝ }
     {
         self.0
     }
 
+    // The sum.
     pub fn plus(self, other: Amount) -> Amount
         ensures { λ r. ⌜ r .0 ≡ capped 64 (self .0 + other .0) ⌝ }
     {

@@ -9,12 +9,14 @@ ghost use Rattle.quantity.specs.Quantity.{capped, voltage};
 const MOST: u32 = 4_294_967_295;
 
 impl Voltage {
+    // A number of hundredths of a kilovolt.
     pub fn of(count: u32) -> Voltage
         ensures { λ r. ⌜ r ≡ voltage count ⌝ }
     {
         Voltage(count)
     }
 
+    // The sum.
     pub fn plus(self, other: Voltage) -> Voltage
         ensures { λ r. ⌜ r .0 ≡ capped 32 (self .0 + other .0) ⌝ }
     {

@@ -71,6 +71,7 @@ fn in_range(
         & (set <= 50_000)
 }
 
+// The role that a number stands for, with its band.
 fn role_of(role: u32, band: u32) -> Role
     ensures { λ r. ⌜ r ≡ roleOf role band ⌝ }
 {
@@ -80,6 +81,7 @@ fn role_of(role: u32, band: u32) -> Role
     Role::SemiActive(Grains::of(band as u64))
 }
 
+// The level that a number stands for.
 fn level_of(level: u32) -> Level
     ensures { λ r. ⌜ r ≡ levelOf level ⌝ }
 {

@@ -37,12 +37,14 @@ const CALLS: [[u32; 9]; 25] = [
     [2, 0, 0, 1, 0, 1000, 22050, 22000, 39],
 ];
 
+// Every call of the table.
 pub fn show_all() {
     for i in 0..25 {
         show(CALLS[i]);
     }
 }
 
+// One row of the table, on a buffer of its own.
 fn show(c: [u32; 9]) {
     let mut buffer = [255u8; 48];
     show_in(c, &mut buffer);
@@ -60,6 +62,7 @@ fn show_in(c: [u32; 9], buffer: &mut [u8]) {
     show_bytes(buffer);
 }
 
+// All bytes of the buffer.
 fn show_bytes(bytes: &[u8]) {
     let mut i = 0;
     while i < bytes.len() {

@@ -1,5 +1,5 @@
-// Runs the classification, the valuation, the rounding and the C call on cases that were worked out
-// by hand from document 01. The file `stdout` has the answers, and docs/quarter_cases.md the working.
+// Runs the classification, the valuation, the rounding and the C call on cases of document 01. The
+// file `stdout` has the answers, each checked by hand against 01; docs/quarter_cases.md has the working.
 mod calls;
 mod print;
 mod rounding;

@@ -21,6 +21,7 @@ pub fn byte(b: u8, place: usize) {
     io::print_hex(STDOUT_FILENO, b as u64, 2);
 }
 
+// The end of a line.
 pub fn end_of_line() {
     io::write_all(STDOUT_FILENO, b"\n");
 }

@@ -12,6 +12,7 @@ const AMOUNTS: [u64; 6] = [
     18_446_744_073_709_551_615,
 ];
 
+// Every amount of the table.
 pub fn show_all() {
     for i in 0..6 {
         let amount = Grains::of(AMOUNTS[i]).times(1);

@@ -51,12 +51,14 @@ const QUARTER_HOURS: [[u32; 8]; 31] = [
     [1, 0, 699678, 1, 0, 438, 0, 22000],
 ];
 
+// Every quarter-hour of the table.
 pub fn show_all() {
     for i in 0..31 {
         show(QUARTER_HOURS[i]);
     }
 }
 
+// One row of the table.
 fn show(q: [u32; 8]) {
     let metered = Metered {
         lamp: q[3] == 1,
@@ -68,12 +70,14 @@ fn show(q: [u32; 8]) {
     show_worth(role_of(q[0], q[2]), level_of(q[1]), metered);
 }
 
+// The shares of a quarter-hour and what they are worth.
 fn show_worth(role: Role, level: Level, metered: Metered) {
     let shares = quarter::classify(role, level, metered);
     show_shares(shares);
     show_amounts(quarter::value(shares, tariffs_of(role)));
 }
 
+// The five shares, in document 01's order.
 fn show_shares(shares: Shares) {
     let paid = shares.paid;
     let free = shares.free;
@@ -87,6 +91,7 @@ fn show_shares(shares: Shares) {
     figure(disconnected.count());
 }
 
+// Credit and debit, unrounded.
 fn show_amounts(amounts: Amounts) {
     let credit = amounts.credit;
     let debit = amounts.debit;
@@ -94,6 +99,7 @@ fn show_amounts(amounts: Amounts) {
     last_figure(debit.count());
 }
 
+// The role that a number stands for.
 fn role_of(role: u32, band: u32) -> Role {
     if role == 0 {
         return Role::Active;
@@ -101,6 +107,7 @@ fn role_of(role: u32, band: u32) -> Role {
     Role::SemiActive(Grains::of(band as u64))
 }
 
+// The level that a number stands for.
 fn level_of(level: u32) -> Level {
     if level == 0 {
         return Level::Kv220;

@@ -1,3 +1,5 @@
+-- `quarter::c_call::put` meets its contract: after i turns the first i bytes of the share are in place.
+-- Assumes nothing.
 use Prim.Native.Nat.{ℕ, _-_, _≤_}
 use mathlib.Core.Path.{_≡_, ap, _∙_}
 use native.Mathlib.Omega.{arith}
@@ -5,13 +7,10 @@ use borrow.Author.Needs.{needs}
 use denote.Ref.{now}
 use lib.ListN.{length}
 use lib.Seq.{paste, paste-zero}
-use Rattle.quarter.specs.Call.{bigEndian}
 use Rattle.quarter.proofs.Bytes.{put-length, put-turn}
+use Rattle.quarter.specs.Call.{bigEndian}
 use Rattle.quarter.proofs.c_call.put.Statement.{statement}
 use Rattle.quarter.proofs.c_call.put.Tie as tie
-use Rattle.quarter.proofs.c_call.put.Reads as reads
-use Rattle.quarter.proofs.c_call.put.Lts as lts
-use Rattle.quantity.proofs.Grains.count.Reads as count-reads
 
 abbrev Inv-loop : tie.InvT-loop
 Inv-loop bytes₀ at grains i₀ bytes i = (i ≤ 8) × (bytes ≡ paste bytes₀ at (bigEndian 8 grains) i)
@@ -19,37 +18,29 @@ Inv-loop bytes₀ at grains i₀ bytes i = (i ≤ 8) × (bytes ≡ paste bytes�
 abbrev μ-loop : tie.MeasureT-loop
 μ-loop bytes₀ at grains i₀ bytes i = 8 - i
 
--- src/c_call.rt:106:9
 count-requires : tie.Need-count-requires Inv-loop μ-loop
 count-requires c κs = search needs
 
--- src/c_call.rt:107:5
 loop-holds : tie.Need-loop-holds Inv-loop μ-loop
 loop-holds c =
     let a = c .before .before .args in
     (search needs, paste-zero (now (a .bytes)) (a .at) (bigEndian 8 (c .count .result)))
 
--- src/c_call.rt:108:43
 mul-bytes : tie.Need-mul-bytes Inv-loop μ-loop
 mul-bytes c = search needs
 
--- src/c_call.rt:108:38
 sub-bytes : tie.Need-sub-bytes Inv-loop μ-loop
 sub-bytes c = search needs
 
--- src/c_call.rt:108:27
 shr-bytes : tie.Need-shr-bytes Inv-loop μ-loop
 shr-bytes c = search needs
 
--- src/c_call.rt:108:25
 cast-bytes : tie.Need-cast-bytes Inv-loop μ-loop
 cast-bytes c = search needs
 
--- src/c_call.rt:108:15
 add-bytes : tie.Need-add-bytes Inv-loop μ-loop
 add-bytes c = search needs
 
--- src/c_call.rt:108:9
 slice-write-bytes : tie.Need-slice-write-bytes Inv-loop μ-loop
 slice-write-bytes c =
     let a = c .before .before .before .before .args in
@@ -58,15 +49,12 @@ slice-write-bytes c =
     in
     omega arith
 
--- src/c_call.rt:107:9
 add-i : tie.Need-add-i Inv-loop μ-loop
 add-i c = search needs
 
--- src/c_call.rt:107:5
 loop-less : tie.Need-loop-less Inv-loop μ-loop
 loop-less c = search needs
 
--- src/c_call.rt:107:5
 loop-again : tie.Need-loop-again Inv-loop μ-loop
 loop-again c =
     let a = c .before .before .before .before .args in (
@@ -74,13 +62,11 @@ loop-again c =
       put-turn (now (a .bytes)) (a .at) (c .before .before .count .result) (c .before .before .before .before .pre) (c .before .loop .i) _ (c .loop-test .taken) (c .before .loop .inv .1),
     )
 
--- src/c_call.rt:102:1
 same-length : tie.Need-same-length Inv-loop μ-loop
 same-length c =
     let a = c .before .before .before .before .args in
     put-length (now (a .bytes)) (a .at) (c .before .before .count .result) (c .before .before .before .before .pre) (c .before .loop .i) _ (c .before .loop .inv .0) (c .before .loop .inv .1)
 
--- src/c_call.rt:102:1
 returns : tie.Need-returns Inv-loop μ-loop
 returns c =
     let a = c .before .before .before .before .args in

@@ -1,37 +1,29 @@
+-- `quarter::c_call::store` meets its contract: five puts, one after the other.
+-- Assumes nothing.
 use borrow.Author.Needs.{needs}
 use denote.Ref.{now}
 use Rattle.quarter.proofs.Bytes.{stored}
 use Rattle.quarter.proofs.c_call.store.Statement.{statement}
 use Rattle.quarter.proofs.c_call.store.Tie as tie
-use Rattle.quarter.proofs.c_call.store.Reads as reads
-use Rattle.quarter.proofs.c_call.store.Lts as lts
-use Rattle.quarter.proofs.c_call.put.Reads as put-reads
 
--- src/c_call.rt:94:5
 put-requires : tie.Need-put-requires
 put-requires c κs = search needs
 
--- src/c_call.rt:95:5
 put-requires-2 : tie.Need-put-requires-2
 put-requires-2 c κs = search needs
 
--- src/c_call.rt:96:5
 put-requires-3 : tie.Need-put-requires-3
 put-requires-3 c κs = search needs
 
--- src/c_call.rt:97:5
 put-requires-4 : tie.Need-put-requires-4
 put-requires-4 c κs = search needs
 
--- src/c_call.rt:98:5
 put-requires-5 : tie.Need-put-requires-5
 put-requires-5 c κs = search needs
 
--- src/c_call.rt:90:1
 same-length : tie.Need-same-length
 same-length c = search needs
 
--- src/c_call.rt:90:1
 returns : tie.Need-returns
 returns c =
     stored (c .before .before .before .before .before .before .before .before .before .before .before .before .before .before .before .before .before .before .before .before .before .args .shares) (now (c .before .before .before .before .before .before .before .before .before .before .before .before .before .before .before .before .before .before .before .before .before .args .bytes)) _ _ _ _ _

@@ -1,85 +1,60 @@
+-- `quarter::classification::classify_supply` meets its contract: each return is the law of its role and lamp.
+-- Assumes nothing.
 use mathlib.Core.Path.{_∙_}
+use borrow.Author.Needs.{needs}
 use borrow.Author.Tests.{not-true, not-false}
 use Rattle.quarter.proofs.Supply.{unlit, lit-active, lit-semi-active}
-use borrow.Author.Needs.{needs}
 use Rattle.quarter.proofs.classification.classify_supply.Statement.{statement}
 use Rattle.quarter.proofs.classification.classify_supply.Tie as tie
-use Rattle.quarter.proofs.classification.classify_supply.Reads as reads
-use Rattle.quarter.proofs.classification.classify_supply.Lts as lts
-use Rattle.quantity.proofs.Grains.exceeds.Reads as exceeds-reads
-use Rattle.quantity.proofs.Grains.minus.Reads as minus-reads
-use Rattle.quantity.proofs.Grains.of.Reads as of-reads
-use Rattle.quantity.proofs.Grains.of_kvarh.Reads as of-kvarh-reads
-use Rattle.quarter.proofs.classification.active.Reads as active-reads
-use Rattle.quarter.proofs.classification.allowance.Reads as allowance-reads
-use Rattle.quarter.proofs.classification.file.Reads as file-reads
-use Rattle.quarter.proofs.classification.is_connected.Reads as is-connected-reads
-use Rattle.quarter.proofs.classification.semi_active.Reads as semi-active-reads
 
--- src/classification.rt:46:35
 sub-of-kvarh : tie.Need-sub-of-kvarh
 sub-of-kvarh c = search needs
 
--- src/classification.rt:46:9
 of-kvarh-requires : tie.Need-of-kvarh-requires
 of-kvarh-requires c κs = search needs
 
--- src/classification.rt:47:9
 of-requires : tie.Need-of-requires
 of-requires c κs = search needs
 
--- src/classification.rt:48:9
 is-connected-requires : tie.Need-is-connected-requires
 is-connected-requires c κs = search needs
 
--- src/classification.rt:49:9
 file-requires : tie.Need-file-requires
 file-requires c κs = search needs
 
--- src/classification.rt:49:9
 returns : tie.Need-returns
 returns c =
     c .file .ensures
     ∙ unlit _ _ _ _ _ _ (c .before .before .before .before .before .before .before .before .pre) (c .before .before .before .before .of-kvarh .ensures)
     (c .before .before .before .of .ensures) (c .before .before .is-connected .ensures) (not-true _ (c .before .if1 .taken))
 
--- src/classification.rt:52:30
 enum-told : tie.Need-enum-told
 enum-told c = search needs
 
--- src/classification.rt:52:30
 active-requires : tie.Need-active-requires
 active-requires c κs = search needs
 
--- src/classification.rt:52:25
 file-requires-2 : tie.Need-file-requires-2
 file-requires-2 c κs = search needs
 
--- src/classification.rt:53:26
 enum-known-role : tie.Need-enum-known-role
 enum-known-role c = search needs
 
--- src/classification.rt:54:44
 exceeds-requires : tie.Need-exceeds-requires
 exceeds-requires c κs = search needs
 
--- src/classification.rt:54:17
 semi-active-requires : tie.Need-semi-active-requires
 semi-active-requires c κs = search needs
 
--- src/classification.rt:55:17
 allowance-requires : tie.Need-allowance-requires
 allowance-requires c κs = search needs
 
--- src/classification.rt:56:25
 minus-requires : tie.Need-minus-requires
 minus-requires c κs = search needs
 
--- src/classification.rt:56:13
 file-requires-3 : tie.Need-file-requires-3
 file-requires-3 c κs = search needs
 
--- src/classification.rt:40:1
 returns-2 : tie.Need-returns-2
 returns-2 c =
     c .file2 .ensures
@@ -87,7 +62,6 @@ returns-2 c =
     (c .before .before .before .before .before .before .of .ensures) (c .before .before .before .before .before .is-connected .ensures)
     (c .before .before .enum-told .given .1) (not-false _ (c .before .before .before .before .if1 .left)) _ (c .before .active .ensures)
 
--- src/classification.rt:40:1
 returns-3 : tie.Need-returns-3
 returns-3 c =
     c .file3 .ensures

@@ -1,42 +1,33 @@
+-- `quarter::classification::semi_active` meets its contract: each class is the law of the tests that lead to it.
+-- Assumes nothing.
+use borrow.Author.Needs.{needs}
 use borrow.Author.Tests.{not-true, not-false}
 use Rattle.quarter.proofs.Supply.{within-band, semi-active-paid, semi-active-billed, semi-active-free}
-use borrow.Author.Needs.{needs}
 use Rattle.quarter.proofs.classification.semi_active.Statement.{statement}
 use Rattle.quarter.proofs.classification.semi_active.Tie as tie
-use Rattle.quarter.proofs.classification.semi_active.Reads as reads
-use Rattle.quarter.proofs.classification.semi_active.Lts as lts
-use Rattle.quantity.proofs.Voltage.is_above.Reads as is-above-reads
-use Rattle.quarter.proofs.classification.semi_active_free.Reads as semi-active-free-reads
 
--- src/classification.rt:89:9
 semi-active-free-requires : tie.Need-semi-active-free-requires
 semi-active-free-requires c κs = search needs
 
--- src/classification.rt:91:9
 returns : tie.Need-returns
 returns c = within-band _ _ _ _ (not-true _ (c .if1 .taken))
 
--- src/classification.rt:93:8
 is-above-requires : tie.Need-is-above-requires
 is-above-requires c κs = search needs
 
--- src/classification.rt:94:9
 returns-2 : tie.Need-returns-2
 returns-2 c =
     semi-active-paid _ _ _ _ _ (c .before .before .before .semi-active-free .ensures) (c .before .is-above .ensures) _ (not-false _ (c .before .before .if1 .left))
     (c .if2 .taken)
 
--- src/classification.rt:96:8
 is-above-requires-2 : tie.Need-is-above-requires-2
 is-above-requires-2 c κs = search needs
 
--- src/classification.rt:97:9
 returns-3 : tie.Need-returns-3
 returns-3 c =
     semi-active-billed _ _ _ _ _ (c .before .before .before .before .before .semi-active-free .ensures) (c .before .before .before .is-above .ensures) _ (c .before .is-above2 .ensures)
     _ (not-false _ (c .before .before .before .before .if1 .left)) (c .before .before .if2 .left) (c .if3 .taken)
 
--- src/classification.rt:86:1
 returns-4 : tie.Need-returns-4
 returns-4 c =
     semi-active-free _ _ _ _ _ (c .before .before .before .before .before .semi-active-free .ensures) (c .before .before .before .is-above .ensures) _ (c .before .is-above2 .ensures)

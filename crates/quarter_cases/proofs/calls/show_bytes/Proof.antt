@@ -1,12 +1,10 @@
+-- `quarter_cases::calls::show_bytes` is safe and ends: the index stays within the slice.
+-- Assumes nothing.
 use Prim.Native.Nat.{_-_, _≤_}
 use borrow.Author.Needs.{needs}
 use lib.ListN.{length}
 use Rattle.quarter_cases.proofs.calls.show_bytes.Statement.{statement}
 use Rattle.quarter_cases.proofs.calls.show_bytes.Tie as tie
-use Rattle.quarter_cases.proofs.calls.show_bytes.Reads as reads
-use Rattle.quarter_cases.proofs.calls.show_bytes.Lts as lts
-use Rattle.quarter_cases.proofs.print.byte.Reads as byte-reads
-use Rattle.quarter_cases.proofs.print.end_of_line.Reads as end-of-line-reads
 
 abbrev Inv-loop : tie.InvT-loop
 Inv-loop bytes i₀ i = i ≤ length bytes
@@ -14,35 +12,27 @@ Inv-loop bytes i₀ i = i ≤ length bytes
 abbrev μ-loop : tie.MeasureT-loop
 μ-loop bytes i₀ i = length bytes - i
 
--- src/calls.rt:65:5
 loop-holds : tie.Need-loop-holds Inv-loop μ-loop
 loop-holds c = search needs
 
--- src/calls.rt:66:14
 shared-slice-read-byte : tie.Need-shared-slice-read-byte Inv-loop μ-loop
 shared-slice-read-byte c = search needs
 
--- src/calls.rt:66:9
 byte-requires : tie.Need-byte-requires Inv-loop μ-loop
 byte-requires c κs = search needs
 
--- src/calls.rt:67:9
 add-i : tie.Need-add-i Inv-loop μ-loop
 add-i c = search needs
 
--- src/calls.rt:65:5
 loop-less : tie.Need-loop-less Inv-loop μ-loop
 loop-less c = search needs
 
--- src/calls.rt:65:5
 loop-again : tie.Need-loop-again Inv-loop μ-loop
 loop-again c = search needs
 
--- src/calls.rt:69:5
 end-of-line-requires : tie.Need-end-of-line-requires Inv-loop μ-loop
 end-of-line-requires c κs = search needs
 
--- src/calls.rt:63:1
 returns : tie.Need-returns Inv-loop μ-loop
 returns c = search needs
 
