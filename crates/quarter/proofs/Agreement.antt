@@ -349,23 +349,19 @@ amount-of-billed Active l m t e lawful = ap (λ (x : ℤ). x *ℤ pos (t .billin
 amount-of-billed (SemiActive b) l m t e lawful =
     rw (lawful, add-zero (t .billing)) (ap (λ (x : ℤ). x *ℤ pos (t .billing)) e)
 
-pub agrees : (role : Role) (l : Level) (m : Metered) (t : Tariffs) → Agrees role l m t
+energies : (role : Role) (l : Level) (m : Metered)
+    → Energies (Said role m) (classified role l m) (vergütet role l m) (frei role l m) (verrechnet role l m)
 unfolding vergütet frei verrechnet
-agrees Active l m t =
-    let e = active l m (sign m) in
+energies Active l m = active l m (sign m)
+energies (SemiActive b) l m = semi-active b l m (sign m)
+
+pub agrees : (role : Role) (l : Level) (m : Metered) (t : Tariffs) → Agrees role l m t
+agrees role l m t =
+    let e = energies role l m in
     record {
       paid = e .paid-is;
       free = e .free-is;
       billed = e .billed-is;
-      credit = amount-of-paid Active l m t (e .paid-is);
-      debit = amount-of-billed Active l m t (e .billed-is);
-    }
-agrees (SemiActive b) l m t =
-    let e = semi-active b l m (sign m) in
-    record {
-      paid = e .paid-is;
-      free = e .free-is;
-      billed = e .billed-is;
-      credit = amount-of-paid (SemiActive b) l m t (e .paid-is);
-      debit = amount-of-billed (SemiActive b) l m t (e .billed-is);
+      credit = amount-of-paid role l m t (e .paid-is);
+      debit = amount-of-billed role l m t (e .billed-is);
     }

@@ -5,7 +5,7 @@ use mathlib.Core.Path.{_≡_, refl, sym, ap, _∙_}
 use mathlib.Core.Bool.{Bool, true, false, not}
 use native.Mathlib.Omega.{arith}
 use borrow.Author.Tests.{ltb-true, ltb-false, leb-true, leb-false, lt-ltb, le-ltb, le-leb, lt-leb}
-use lib.Dec.{ltb, leb}
+use lib.Dec.{ltb, leb, leb·suc-suc}
 use lib.IntN.{ℤ, pos, negsuc, natAbs, subℕ, negℤ, _+ℤ_, _-ℤ_, +ℤ-assoc, negℤ-+ℤ}
 use lib.Signed.{ltZ, leZ}
 use Rattle.quantity.specs.Quantity.{perKvarh}
@@ -54,25 +54,17 @@ below-of-difference s t u = go (ltb s t) refl
         let h : t ≤ s = ltb-false s t p in
         rw p (same-test (suc (s - t)) u (suc s) (u + t) (omega arith) (omega arith))
 
+most-is-below : (x : ℤ) (u : ℕ) → leZ x (pos u) ≡ ltZ x (pos (suc u))
+most-is-below (pos a) u = sym (leb·suc-suc a u)
+most-is-below (negsuc a) u = refl
+
 pub most-of-difference : (s t u : ℕ) → leZ (subℕ s t) (pos u) ≡ leb s (u + t)
-most-of-difference s t u = go (ltb s t) refl
-  where
-    go : (b : Bool) → ltb s t ≡ b → leZ (subℕ s t) (pos u) ≡ leb s (u + t)
-    go true p = rw p (sym (le-leb s (u + t) (omega (arith, ltb-true s t p))))
-    go false p =
-        let h : t ≤ s = ltb-false s t p in
-        rw p (same-test (s - t) u s (u + t) (omega arith) (omega arith))
+most-of-difference s t u =
+    most-is-below (subℕ s t) u
+    ∙ below-of-difference s t (suc u)
+    ∙ same-test (suc s) (suc u + t) s (u + t) (omega arith) (omega arith)
 
 -- U against S − T
-pub below-difference : (s t u : ℕ) → ltZ (pos u) (subℕ s t) ≡ ltb (u + t) s
-below-difference s t u = go (ltb s t) refl
-  where
-    go : (b : Bool) → ltb s t ≡ b → ltZ (pos u) (subℕ s t) ≡ ltb (u + t) s
-    go true p = rw p (sym (le-ltb (u + t) s (omega (arith, ltb-true s t p))))
-    go false p =
-        let h : t ≤ s = ltb-false s t p in
-        rw p (same-test (suc u) (s - t) (suc (u + t)) s (omega arith) (omega arith))
-
 pub most-difference : (s t u : ℕ) → leZ (pos u) (subℕ s t) ≡ leb (u + t) s
 most-difference s t u = go (ltb s t) refl
   where
@@ -81,6 +73,16 @@ most-difference s t u = go (ltb s t) refl
     go false p =
         let h : t ≤ s = ltb-false s t p in
         rw p (same-test u (s - t) (u + t) s (omega arith) (omega arith))
+
+below-is-most : (u : ℕ) (x : ℤ) → ltZ (pos u) x ≡ leZ (pos (suc u)) x
+below-is-most u (pos a) = refl
+below-is-most u (negsuc a) = refl
+
+pub below-difference : (s t u : ℕ) → ltZ (pos u) (subℕ s t) ≡ ltb (u + t) s
+below-difference s t u =
+    below-is-most u (subℕ s t)
+    ∙ most-difference s t (suc u)
+    ∙ same-test (suc u + t) s (suc (u + t)) s (omega arith) (omega arith)
 
 -- the sign and the size of W_Q
 pub supplies : (m : Metered) → ltZ (WQ m) (pos 0) ≡ ltb (m .take) (m .supply)

@@ -35,17 +35,17 @@ returns-2 c =
     let s = c .before .before .args in
     omega (arith, above (s .a) (s .b) (c .before .if1 .left) (c .if2 .taken))
 
+whole : (c : tie.Else2) → c .before .before .args .a * c .before .before .args .b ≤ most
+unfolding most
+whole c = within (c .before .before .args .a) (c .before .before .args .b) (c .before .if1 .left) (c .if2 .left)
+
 mul-result : tie.Need-mul-result
 unfolding most
-mul-result c =
-    let s = c .before .before .args in
-    omega (arith, within (s .a) (s .b) (c .before .if1 .left) (c .if2 .left))
+mul-result c = omega (arith, whole c)
 
 returns-3 : tie.Need-returns-3
 unfolding most
-returns-3 c =
-    let s = c .before .before .args in
-    omega (arith, within (s .a) (s .b) (c .before .if1 .left) (c .if2 .left))
+returns-3 c = omega (arith, whole c)
 
 pub product-spec : {M : Type 1} → statement M
 product-spec = tie.close (tie.spec returns div-if2 returns-2 mul-result returns-3)
