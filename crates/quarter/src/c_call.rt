@@ -7,10 +7,11 @@ use crate::classify;
 use quantity::Grains;
 use quantity::Voltage;
 ghost use mathlib.Core.Path.{_≡_};
-ghost use mathlib.Core.List.{_++_};
+ghost use mathlib.Core.List.{[], _∷_, _++_};
 ghost use Prim.Native.Nat.{_+_, _≤_};
 ghost use lib.ListN.{length, drop};
 ghost use lib.Seq.{paste};
+ghost use Rattle.quarter.specs.Refusals.{first};
 ghost use Rattle.quarter.specs.Call.{arguments, inRange, roleOf, levelOf, bigEndian, image, called};
 
 // Answers 0 and puts the five shares into the first 40 bytes of `shares`; or 5 for an argument out
@@ -29,11 +30,10 @@ pub extern "C" fn reactive_classify(
 ) -> u32
     ensures { λ r. ⌜ (r, now (shares .exit)) ≡ called (arguments role level band lamp take supply actual set) (now (shares .entry)) ⌝ }
 {
-    if !in_range(role, level, band, lamp, take, supply, actual, set) {
-        return 5;
-    }
-    if shares.len() < 40 {
-        return 13;
+    let fits = in_range(role, level, band, lamp, take, supply, actual, set);
+    let number = refusal(!fits, shares.len() < 40);
+    if number != 0 {
+        return number;
     }
     let metered = Metered {
         lamp: lamp == 1,
@@ -46,6 +46,19 @@ pub extern "C" fn reactive_classify(
         classify(role_of(role, band), level_of(level), metered),
         shares,
     );
+    0
+}
+
+// The number of the first refusal that holds, and 0 where none does.
+fn refusal(out_of_range: bool, too_short: bool) -> u32
+    ensures { λ r. ⌜ r ≡ first ((5, «out_of_range») ∷ (13, «too_short») ∷ []) ⌝ }
+{
+    if out_of_range {
+        return 5;
+    }
+    if too_short {
+        return 13;
+    }
     0
 }
 

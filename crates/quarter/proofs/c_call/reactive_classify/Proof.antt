@@ -1,22 +1,21 @@
--- `quarter::reactive_classify` meets its contract: each answer is the law of the tests that lead to it.
+-- `quarter::reactive_classify` meets its contract: the number of its refusal says which answer is due.
 -- Assumes nothing.
+use mathlib.Core.Bool.{not}
 use borrow.Author.Needs.{needs}
-use borrow.Author.Tests.{not-true, not-false}
 use denote.Ref.{now}
-use Rattle.quarter.proofs.Call.{out-of-range, too-short, accepted}
+use Rattle.quarter.proofs.Call.{room, refused, accepted}
 use Rattle.quarter.proofs.c_call.reactive_classify.Statement.{statement}
 use Rattle.quarter.proofs.c_call.reactive_classify.Tie as tie
 
 in-range-requires : tie.Need-in-range-requires
 in-range-requires c κs = search needs
 
+refusal-requires : tie.Need-refusal-requires
+refusal-requires c κs = search needs
+
 returns : tie.Need-returns
 returns c =
-    out-of-range _ (now (c .before .before .before .args .shares)) _ (c .before .in-range .ensures) (not-true _ (c .if1 .taken))
-
-returns-2 : tie.Need-returns-2
-returns-2 c =
-    too-short _ (now (c .before .before .before .before .args .shares)) _ (c .before .before .in-range .ensures) (not-false _ (c .before .if1 .left)) (c .if2 .taken)
+    refused _ (now (c .before .before .before .before .args .shares)) _ _ (c .before .before .in-range .ensures) (c .before .refusal .ensures) (c .if1 .taken)
 
 of-requires : tie.Need-of-requires
 of-requires c κs = search needs
@@ -34,14 +33,14 @@ classify-requires : tie.Need-classify-requires
 classify-requires c κs = search needs
 
 store-requires : tie.Need-store-requires
-store-requires c κs = search needs
+store-requires c κs = room _ (not (c .before .before .before .before .before .before .before .before .in-range .result)) (now (c .before .before .before .before .before .before .before .before .before .before .args .shares)) (c .before .before .before .before .before .before .before .refusal .ensures) (c .before .before .before .before .before .before .if1 .left)
 
 same-length : tie.Need-same-length
 same-length c = search needs
 
-returns-3 : tie.Need-returns-3
-returns-3 c =
-    accepted _ (now (c .before .before .before .before .before .before .before .before .before .before .before .before .before .args .shares)) _ (c .before .before .before .before .before .before .before .before .before .before .before .in-range .ensures) (not-false _ (c .before .before .before .before .before .before .before .before .before .before .if1 .left)) (c .before .before .before .before .before .before .before .before .before .if2 .left)
+returns-2 : tie.Need-returns-2
+returns-2 c =
+    accepted _ (now (c .before .before .before .before .before .before .before .before .before .before .before .before .before .args .shares)) _ _ (c .before .before .before .before .before .before .before .before .before .before .before .in-range .ensures) (c .before .before .before .before .before .before .before .before .before .before .refusal .ensures) (c .before .before .before .before .before .before .before .before .before .if1 .left)
     _ _ _ _ _ (c .before .before .before .before .classify .ensures) (c .before .before .before .before .before .before .role-of .ensures) (c .before .before .before .before .before .level-of .ensures)
     (c .before .before .before .before .before .before .before .before .of .ensures) (c .before .before .before .before .before .before .before .of2 .ensures) _ (c .before .before .store .ensures)
 
@@ -50,8 +49,8 @@ reactive-classify-spec =
     tie.close
     (tie.spec
     in-range-requires
+    refusal-requires
     returns
-    returns-2
     of-requires
     of-requires-2
     role-of-requires
@@ -59,4 +58,4 @@ reactive-classify-spec =
     classify-requires
     store-requires
     same-length
-    returns-3)
+    returns-2)
