@@ -16,6 +16,13 @@ impl Voltage {
         Voltage(count)
     }
 
+    // How many hundredths of a kilovolt.
+    pub fn count(self) -> u32
+        ensures { λ r. ⌜ r ≡ self .0 ⌝ }
+    {
+        self.0
+    }
+
     // The sum.
     pub fn plus(self, other: Voltage) -> Voltage
         ensures { λ r. ⌜ r .0 ≡ capped 32 (self .0 + other .0) ⌝ }
