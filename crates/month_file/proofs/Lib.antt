@@ -1,0 +1,8 @@
+mod Answers
+pub mod Bands
+pub mod Entries
+pub mod Headers
+pub mod Months
+pub mod Points
+pub mod RoundTrips
+mod Turns

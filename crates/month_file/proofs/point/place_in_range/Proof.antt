@@ -1,0 +1,12 @@
+-- `month_file::point::place_in_range` meets its contract: by definition. Assumes nothing.
+use mathlib.Core.Path.{refl}
+use Rattle.month_file.specs.Point.{placeInRange}
+use Rattle.month_file.proofs.point.place_in_range.Statement.{statement}
+use Rattle.month_file.proofs.point.place_in_range.Tie as tie
+
+returns : tie.Need-returns
+unfolding placeInRange
+returns c = refl
+
+pub place-in-range-spec : {M : Type 1} → statement M
+place-in-range-spec = tie.close (tie.spec returns)

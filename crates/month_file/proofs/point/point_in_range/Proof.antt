@@ -1,0 +1,31 @@
+-- `month_file::point::point_in_range` meets its contract: by definition, at the answers for the four places. Assumes nothing.
+use Rattle.month_file.specs.Point.{pointInRange}
+use borrow.Author.Needs.{needs}
+use Rattle.month_file.proofs.point.point_in_range.Statement.{statement}
+use Rattle.month_file.proofs.point.point_in_range.Tie as tie
+
+place-in-range-requires : tie.Need-place-in-range-requires
+place-in-range-requires c κs = search needs
+
+place-in-range-requires-2 : tie.Need-place-in-range-requires-2
+place-in-range-requires-2 c κs = search needs
+
+place-in-range-requires-3 : tie.Need-place-in-range-requires-3
+place-in-range-requires-3 c κs = search needs
+
+place-in-range-requires-4 : tie.Need-place-in-range-requires-4
+place-in-range-requires-4 c κs = search needs
+
+returns : tie.Need-returns
+unfolding pointInRange
+returns c = cc
+
+pub point-in-range-spec : {M : Type 1} → statement M
+point-in-range-spec =
+    tie.close
+    (tie.spec
+    place-in-range-requires
+    place-in-range-requires-2
+    place-in-range-requires-3
+    place-in-range-requires-4
+    returns)

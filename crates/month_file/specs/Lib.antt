@@ -1,0 +1,7 @@
+pub mod Calendar
+pub mod Entry
+pub mod Examples
+pub mod Header
+pub mod Layout
+pub mod Point
+pub mod RoundTrip

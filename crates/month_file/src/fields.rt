@@ -1,0 +1,35 @@
+// The fields of a record, which follow each other from its first bit on without gaps.
+ghost use mathlib.Core.Path.{_≡_};
+ghost use Prim.Native.Nat.{ℕ, _^_, _<_};
+ghost use lib.ListN.{length, getD};
+ghost use Rattle.bits.specs.Fields.{fieldsAt, storedAll, Fit};
+ghost use Rattle.month_file.specs.Layout.{Layout};
+
+// Reads the fields of these widths.
+pub(crate) fn read_fields(bytes: &[u8], widths: &[usize], values: &mut [u64])
+    requires { ⌜ Layout (now bytes) (now widths) ⌝ }
+    requires { ⌜ length (now values) ≡ length (now widths) ⌝ }
+    ensures { λ _. ⌜ now (values .exit) ≡ fieldsAt (now (bytes .entry)) 0 (now (widths .entry)) ⌝ }
+    ensures { λ _. ⌜ ((i : ℕ) → getD (now (values .exit)) i 0 < 2 ^ getD (now (widths .entry)) i 0) ⌝ }
+{
+    let mut at = 0;
+    for i in 0..widths.len() {
+        let width = widths[i];
+        values[i] = bits::get(bytes, at, width);
+        at += width;
+    }
+}
+
+// Writes these values into the fields of these widths.
+pub(crate) fn write_fields(bytes: &mut [u8], widths: &[usize], values: &[u64])
+    requires { ⌜ Layout (now bytes) (now widths) ⌝ }
+    requires { ⌜ Fit (now widths) (now values) ⌝ }
+    ensures { λ _. ⌜ now (bytes .exit) ≡ storedAll (now (bytes .entry)) 0 (now (widths .entry)) (now (values .entry)) ⌝ }
+{
+    let mut at = 0;
+    for i in 0..widths.len() {
+        let width = widths[i];
+        bits::put(bytes, at, width, values[i]);
+        at += width;
+    }
+}

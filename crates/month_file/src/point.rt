@@ -1,0 +1,184 @@
+// A supply point of a month file, 21 bytes.
+use crate::fields::read_fields;
+use crate::fields::write_fields;
+use quantity::Grains;
+use quarter::Level;
+use quarter::Tariffs;
+ghost use mathlib.Core.Path.{_≡_};
+ghost use Prim.Native.Nat.{_*_, _^_, _≤_, _<_};
+ghost use Rattle.quantity.specs.Quantity.{grains};
+ghost use Rattle.quarter.specs.Call.{levelOf};
+ghost use Rattle.quarter.specs.Reading.{band};
+ghost use Rattle.month_file.specs.Point.{levelBit, place, placeInRange, pointInRange};
+ghost use Rattle.month_file.specs.Point.{decodedPoint, encodedPoint, counted, product};
+
+// The widths of the fields: role, level, transformers, payment and billing tariff, penalty, and the
+// four places of uk and Sn.
+const WIDTHS: [usize; 14] = [1, 1, 3, 17, 17, 17, 12, 16, 12, 16, 12, 16, 12, 16];
+
+// A transformer: the short-circuit voltage uk in 0.01 %, and the rated power Sn in 0.1 MVA.
+pub struct Transformer {
+    pub uk: u16,
+    pub sn: u16,
+}
+
+// A supply point. Of its four places for transformers the first `transformers` are counted.
+pub struct Point {
+    pub semi_active: bool,
+    pub level: Level,
+    pub transformers: u8,
+    pub tariffs: Tariffs,
+    pub first: Transformer,
+    pub second: Transformer,
+    pub third: Transformer,
+    pub fourth: Transformer,
+}
+
+// What the bytes of a point hold.
+pub enum PointAnswer {
+    Read(Point),
+    Refused,
+}
+
+// The band of a point: uk times Sn summed over the counted transformers, in grains.
+pub fn band(point: Point) -> Grains
+    ensures { λ r. ⌜ r ≡ grains (band (counted point)) ⌝ }
+{
+    let n = point.transformers;
+    let first = product(0 < n, point.first);
+    let second = product(1 < n, point.second);
+    let third = product(2 < n, point.third);
+    let fourth = product(3 < n, point.fourth);
+    Grains::of(first + second + third + fourth)
+}
+
+// uk times Sn of a place that is counted; 0 of one that is not.
+fn product(counts: bool, place: Transformer) -> u64
+    ensures { λ r. ⌜ r ≡ product counts place ⌝ }
+    ensures { λ r. ⌜ r < 2 ^ 32 ⌝ }
+{
+    if !counts {
+        return 0;
+    }
+    (place.uk as u64) * (place.sn as u64)
+}
+
+// Whether each field is in its range, and the fields agree with each other.
+pub fn point_in_range(point: Point) -> bool
+    ensures { λ r. ⌜ r ≡ pointInRange point ⌝ }
+{
+    let n = point.transformers;
+    let semi_active = point.semi_active;
+    let tariffs = point.tariffs;
+    (semi_active & (1 <= n) & (n <= 4) & (tariffs.penalty == 0) | !semi_active & (n == 0))
+        & (tariffs.payment <= 100_000)
+        & (tariffs.billing <= 100_000)
+        & (tariffs.penalty <= 100_000)
+        & place_in_range(0 < n, point.first)
+        & place_in_range(1 < n, point.second)
+        & place_in_range(2 < n, point.third)
+        & place_in_range(3 < n, point.fourth)
+}
+
+// Whether a place that is counted is in its range, and any other is all zero.
+fn place_in_range(counts: bool, place: Transformer) -> bool
+    ensures { λ r. ⌜ r ≡ placeInRange counts place ⌝ }
+{
+    counts & (1 <= place.uk) & (place.uk <= 4_000) & (1 <= place.sn) & (place.sn <= 20_000)
+        | !counts & (place.uk == 0) & (place.sn == 0)
+}
+
+// The point that the bytes hold.
+pub fn decode_point(bytes: &[u8]) -> PointAnswer
+    ensures { λ r. ⌜ r ≡ decodedPoint (now (bytes .entry)) ⌝ }
+{
+    if bytes.len() != 21 {
+        return PointAnswer::Refused;
+    }
+    let mut values = [0u64; 14];
+    read_fields(bytes, &WIDTHS, &mut values);
+    let transformers = values[2] as u8;
+    let payment = values[3] as u32;
+    let billing = values[4] as u32;
+    let penalty = values[5] as u32;
+    let tariffs = Tariffs {
+        payment,
+        billing,
+        penalty,
+    };
+    let point = Point {
+        semi_active: values[0] == 1,
+        level: level_of(values[1]),
+        transformers,
+        tariffs,
+        first: place_of(values[6], values[7]),
+        second: place_of(values[8], values[9]),
+        third: place_of(values[10], values[11]),
+        fourth: place_of(values[12], values[13]),
+    };
+    if point_in_range(point) {
+        return PointAnswer::Read(point);
+    }
+    PointAnswer::Refused
+}
+
+// The level that a bit stands for.
+fn level_of(bit: u64) -> Level
+    ensures { λ r. ⌜ r ≡ levelOf bit ⌝ }
+{
+    if bit == 0 {
+        return Level::Kv220;
+    }
+    Level::Kv380
+}
+
+// The transformer at a place with these fields.
+fn place_of(uk: u64, sn: u64) -> Transformer
+    requires { ⌜ uk < 2 ^ 12 ⌝ }
+    requires { ⌜ sn < 2 ^ 16 ⌝ }
+    ensures { λ r. ⌜ r ≡ place uk sn ⌝ }
+{
+    Transformer {
+        uk: uk as u16,
+        sn: sn as u16,
+    }
+}
+
+// Writes the point into 21 bytes; or answers false, and leaves the bytes as they are, where a field
+// breaks a rule or there are not 21 bytes.
+pub fn encode_point(point: Point, bytes: &mut [u8]) -> bool
+    ensures { λ r. ⌜ (r, now (bytes .exit)) ≡ encodedPoint point (now (bytes .entry)) ⌝ }
+{
+    if !((bytes.len() == 21) & point_in_range(point)) {
+        return false;
+    }
+    let level = point.level;
+    let values = [
+        point.semi_active as u64,
+        level_bit(level),
+        point.transformers as u64,
+        point.tariffs.payment as u64,
+        point.tariffs.billing as u64,
+        point.tariffs.penalty as u64,
+        point.first.uk as u64,
+        point.first.sn as u64,
+        point.second.uk as u64,
+        point.second.sn as u64,
+        point.third.uk as u64,
+        point.third.sn as u64,
+        point.fourth.uk as u64,
+        point.fourth.sn as u64,
+    ];
+    write_fields(bytes, &WIDTHS, &values);
+    true
+}
+
+// The bit that stands for a level.
+fn level_bit(level: Level) -> u64
+    ensures { λ r. ⌜ r ≡ levelBit level ⌝ }
+{
+    match level {
+        Level::Kv220 => 0,
+        Level::Kv380 => 1,
+    }
+}
