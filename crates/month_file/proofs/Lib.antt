@@ -1,8 +1,9 @@
-mod Answers
+pub mod Answers
 pub mod Bands
 pub mod Entries
 pub mod Headers
 pub mod Months
 pub mod Points
+pub mod Readable
 pub mod RoundTrips
 mod Turns

@@ -45,3 +45,15 @@ decodedHeader bytes = cond (eqb (length bytes) 7) (headerFrom (fieldsAt bytes 0 
 unfoldable pub encodedHeader : Header → List ℕ → Bool × List ℕ
 encodedHeader h bytes =
     cond (eqb (length bytes) 7 && headerInRange h) (true, storedAll bytes 0 headerWidths (headerValues h)) (false, bytes)
+
+-- the header in these bytes, whatever its fields hold
+unfoldable pub headerIn : List ℕ → Header
+headerIn bytes = headerOf (fieldsAt bytes 0 headerWidths)
+
+-- whether these bytes are refused
+abbrev pub isRefused : HeaderAnswer → Bool
+isRefused (Read h) = false
+isRefused Refused = true
+
+unfoldable pub wrongHeader : List ℕ → Bool
+wrongHeader bytes = isRefused (decodedHeader bytes)

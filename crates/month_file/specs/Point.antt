@@ -105,3 +105,19 @@ counted p = take (p .transformers) (rated (p .first) ∷ rated (p .second) ∷ r
 -- what a place adds to the band
 abbrev pub product : Bool → Transformer → ℕ
 product counts t = cond counts (t .uk * t .sn) 0
+
+-- the point in these bytes, whatever its fields hold
+unfoldable pub pointIn : List ℕ → Point
+pointIn bytes = pointOf (fieldsAt bytes 0 pointWidths)
+
+-- whether these bytes are refused
+abbrev pub isRefused : PointAnswer → Bool
+isRefused (Read p) = false
+isRefused Refused = true
+
+unfoldable pub wrongPoint : List ℕ → Bool
+wrongPoint bytes = isRefused (decodedPoint bytes)
+
+-- a point of zeros
+unfoldable pub noPoint : Point
+noPoint = pointOf []

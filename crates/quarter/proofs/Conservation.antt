@@ -1,6 +1,6 @@
 -- The five shares always add up to |W|. With it: where 004 is silent, 01's reading; and no amount within 01's ranges is cut off.
 -- Assumes nothing.
-use Prim.Native.Nat.{ℕ, _+_, _-_, _*_, _≤_, _<_}
+use Prim.Native.Nat.{ℕ, _+_, _-_, _≤_}
 use mathlib.Core.Path.{_≡_, refl, ap₂, _∙_}
 use mathlib.Core.Bool.{Bool, true, false, cond, _&&_}
 use native.Mathlib.Nat.{mul-le-mul}
@@ -15,7 +15,6 @@ use Rattle.quarter.specs.declared.Level.{Level}
 use Rattle.quarter.specs.declared.Class.{Class}
 use Rattle.quarter.specs.declared.Class.the-variants.{Paid, Free, Billed, Disconnected}
 use Rattle.quarter.specs.declared.Metered.{Metered}
-use Rattle.quarter.specs.declared.Shares.{Shares}
 use Rattle.quarter.specs.declared.Tariffs.{Tariffs}
 use Rattle.quarter.specs.Reading.{absolute, shares, none, filed, activeClass, helps, semiActiveFree, semiActive, ofRole, exchanged, classified}
 use Rattle.quarter.specs.Reading.{creditOf, debitOf, amounts, valued}
@@ -84,23 +83,33 @@ at-the-band b l m e = go (eqb (m .take) (m .supply)) refl
         rw nothing
     go false p = rw (le-leb (absolute m) (b .0) (omega arith))
 
-part-most : (s : Shares) (w : ℕ) → total s ≤ w → (s .paid .0 ≤ w) × (s .billed .0 ≤ w)
-unfolding total
-part-most s w h = omega arith
-
-absolute-most : (m : Metered) (t : Tariffs) → InRange m t → absolute m ≤ 1600000000
+-- the largest |W|: 1,000,000 kvarh
+pub absolute-most : (m : Metered) (t : Tariffs) → InRange m t → absolute m ≤ 1600000000
 unfolding absolute
 absolute-most m t r = omega arith
 
--- within 01's ranges 64 bits hold both amounts: nothing is cut off
-pub exact : (role : Role) (l : Level) (m : Metered) (t : Tariffs) → InRange m t
-    → valued (classified role l m) t ≡ amounts (creditOf (classified role l m) t) (debitOf (classified role l m) t)
-unfolding valued creditOf debitOf
-exact role l m t r =
-    let s = classified role l m in
-    let all : total s ≤ 1600000000 = omega (arith, conserved role l m, absolute-most m t r) in
-    let parts = part-most s 1600000000 all in
-    let rate : t .billing + t .penalty ≤ 200000 = omega arith in
-    let credit : s .paid .0 * t .payment ≤ 1600000000 * 100000 = mul-le-mul (parts .0) (r .payment-most) in
-    let debit : s .billed .0 * (t .billing + t .penalty) ≤ 1600000000 * 200000 = mul-le-mul (parts .1) rate in
-    ap₂ amounts (omega arith) (omega arith)
+-- The amounts within 01's ranges.
+module _ (role : Role) (l : Level) (m : Metered) (t : Tariffs) (r : InRange m t) where
+  -- no share is larger than |W|
+  part-most : (classified role l m .paid .0 ≤ 1600000000) × (classified role l m .billed .0 ≤ 1600000000)
+  part-most =
+      let all = conserved role l m in
+      let most = absolute-most m t r in
+      unfold total in omega arith
+
+  -- 1,000,000 kvarh, paid at 100,000
+  pub credit-most : creditOf (classified role l m) t ≤ 160000000000000
+  unfolding creditOf
+  credit-most = mul-le-mul (part-most .0) (r .payment-most)
+
+  -- and billed at 100,000, with a penalty of 100,000
+  pub debit-most : debitOf (classified role l m) t ≤ 320000000000000
+  unfolding debitOf
+  debit-most =
+      let rate : t .billing + t .penalty ≤ 200000 = omega arith in
+      mul-le-mul (part-most .1) rate
+
+  -- 64 bits hold both amounts: nothing is cut off
+  pub exact : valued (classified role l m) t ≡ amounts (creditOf (classified role l m) t) (debitOf (classified role l m) t)
+  unfolding valued
+  exact = let c = credit-most in let d = debit-most in ap₂ amounts (omega arith) (omega arith)
