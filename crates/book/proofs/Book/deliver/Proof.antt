@@ -1,0 +1,77 @@
+-- `book::Book::deliver` meets its contract: it tests 7 and 5, and leaves the others to `deliver_entry`. Assumes nothing.
+use mathlib.Core.Path.{sym, _∙_}
+use Rattle.book.proofs.Deliveries.{not-read}
+use Rattle.book.proofs.Denials.{denied, granted}
+use Rattle.book.proofs.Replies.{replied}
+use Rattle.book.proofs.Tested.{seven}
+use borrow.Author.Needs.{needs}
+use Rattle.book.proofs.Book.deliver.Statement.{statement}
+use Rattle.book.proofs.Book.deliver.Tie as tie
+
+is-sound-requires : tie.Need-is-sound-requires
+is-sound-requires c κs = search needs
+
+reply-requires : tie.Need-reply-requires
+reply-requires c κs = search needs
+
+same-length : tie.Need-same-length
+same-length c = search needs
+
+returns : tie.Need-returns
+returns c =
+    let q = c .before in
+    replied (c .reply .ensures) (seven _ _ _ (denied _ _ (q .before .is-sound .ensures) (q .if1 .taken)))
+
+decode-entry-requires : tie.Need-decode-entry-requires
+decode-entry-requires c κs = search needs
+
+enum-known-entry : tie.Need-enum-known-entry
+enum-known-entry c = search needs
+
+enum-told : tie.Need-enum-told
+enum-told c = search needs
+
+reply-requires-2 : tie.Need-reply-requires-2
+reply-requires-2 c κs = search needs
+
+same-length-2 : tie.Need-same-length-2
+same-length-2 c = search needs
+
+returns-2 : tie.Need-returns-2
+returns-2 c =
+    let q = c .before in
+    let decoded = q .before .before in
+    let tested = decoded .before in
+    replied (c .reply2 .ensures)
+    (not-read _ _ _ (granted _ _ (tested .before .is-sound .ensures) (tested .if1 .left)) (sym (decoded .decode-entry .ensures) ∙ q .enum-told .given .1))
+
+deliver-entry-requires : tie.Need-deliver-entry-requires
+deliver-entry-requires c κs =
+    let read = c .before .before in
+    let decoded = read .before .before in
+    let tested = decoded .before in
+    (granted _ _ (tested .before .is-sound .ensures) (tested .if1 .left), sym (decoded .decode-entry .ensures) ∙ read .entry .given .1)
+
+same-length-3 : tie.Need-same-length-3
+same-length-3 c = search needs
+
+returns-3 : tie.Need-returns-3
+returns-3 c = search needs
+
+pub deliver-spec : {M : Type 1} → statement M
+deliver-spec =
+    tie.close
+    (tie.spec
+    is-sound-requires
+    reply-requires
+    same-length
+    returns
+    decode-entry-requires
+    enum-known-entry
+    enum-told
+    reply-requires-2
+    same-length-2
+    returns-2
+    deliver-entry-requires
+    same-length-3
+    returns-3)

@@ -1,0 +1,5 @@
+pub mod Demand
+pub mod Library
+pub mod Machine
+pub mod Opening
+pub mod Steps

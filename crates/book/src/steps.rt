@@ -1,0 +1,56 @@
+// What one entry does to a book's totals, and the tests of a delivery.
+use crate::Book;
+use journal::Standing;
+use month_file::Entry;
+use month_file::Point;
+use month_file::quarters_of_month;
+use worth::Figures;
+ghost use mathlib.Core.Path.{_≡_};
+ghost use Prim.Native.Nat.{_<_};
+ghost use Rattle.month_file.specs.Calendar.{quartersOf};
+ghost use Rattle.book.specs.Steps.{isOutside, above, worthAmong, worthStanding, Placed, exchangedHeld};
+
+// Whether an entry's point or quarter is outside the book.
+pub(crate) fn is_outside(book: Book, entry: Entry) -> bool
+    ensures { λ r. ⌜ r ≡ isOutside (book .count) (quartersOf (book .year) (book .month)) entry ⌝ }
+{
+    (book.count <= entry.point) | (quarters_of_month(book.year, book.month) <= entry.quarter)
+}
+
+// Whether an entry's version is above that of the entry that stands, if one does.
+pub(crate) fn supersedes(entry: Entry, standing: Standing) -> bool
+    ensures { λ r. ⌜ r ≡ above (entry .version) standing ⌝ }
+{
+    match standing {
+        Standing::Nothing => true,
+        Standing::Found(earlier) => earlier.version < entry.version,
+    }
+}
+
+// What an entry is worth to its point.
+pub(crate) fn worth_in(points: [Point; 8], entry: Entry) -> Figures
+    requires { ⌜ entry .point < 8 ⌝ }
+    ensures { λ r. ⌜ r ≡ worthAmong points entry ⌝ }
+{
+    let at = entry.point as usize;
+    let metered = entry.metered;
+    Figures::of(points[at], metered)
+}
+
+// What the entry that stands is worth; nothing where none does.
+pub(crate) fn worth_standing(points: [Point; 8], standing: Standing) -> Figures
+    requires { ⌜ Placed standing ⌝ }
+    ensures { λ r. ⌜ r ≡ worthStanding points standing ⌝ }
+{
+    match standing {
+        Standing::Nothing => Figures::none(),
+        Standing::Found(entry) => worth_in(points, entry),
+    }
+}
+
+// Stored figures with others added, and others taken away.
+pub(crate) fn exchange(stored: Figures, incoming: Figures, outgoing: Figures) -> Figures
+    ensures { λ r. ⌜ r ≡ exchangedHeld stored incoming outgoing ⌝ }
+{
+    stored.plus(incoming).minus(outgoing)
+}
