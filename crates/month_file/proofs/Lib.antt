@@ -3,6 +3,7 @@ pub mod Bands
 pub mod Entries
 pub mod Headers
 pub mod Months
+pub mod Overwriting
 pub mod Points
 pub mod Readable
 pub mod RoundTrips
