@@ -48,7 +48,7 @@ unfolding quartersOf
 months-most y m = omega (arith, days-most y m)
 
 -- each of a list that all pass a test passes it
-all-at : {A : Type 0} (p : A → Bool) (l : List A) (i : ℕ) (d : A) → all l p ≡ true → i < length l → p (getD l i d) ≡ true
+pub all-at : {A : Type 0} (p : A → Bool) (l : List A) (i : ℕ) (d : A) → all l p ≡ true → i < length l → p (getD l i d) ≡ true
 all-at p [] i d h k = absurd (omega arith)
 all-at p (x ∷ l) zero d h k = both (p x) (all l p) (sym (all-cons p x l) ∙ h) .0
 all-at p (x ∷ l) (suc i) d h k = all-at p l i d (both (p x) (all l p) (sym (all-cons p x l) ∙ h) .1) (omega arith)

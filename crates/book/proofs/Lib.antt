@@ -1,18 +1,18 @@
 pub mod AnyAll
-mod Counted
-mod Deliveries
+pub mod Counted
+pub mod Deliveries
 pub mod Demand
-mod Denials
+pub mod Denials
 pub mod Fitting
 mod Found
 pub mod Numbers
 pub mod OneCall
 pub mod Opened
 mod Opens
-mod Reading
+pub mod Reading
 pub mod Sound
 pub mod Standing
-mod Standings
+pub mod Standings
 mod Replies
 mod Summing
 mod TakingBack

@@ -17,7 +17,7 @@ use Rattle.journal.specs.Journal.{bytesAt, entryAt, entries, standingPlace}
 use Rattle.book.specs.declared.Book.{Book}
 use Rattle.book.specs.declared.answers.Answer.{Answer}
 use Rattle.book.specs.declared.answers.Answer.the-variants.{Accepted, TooShort, WrongHeader, WrongLength, WrongPoint, Unreadable}
-use Rattle.book.specs.declared.answers.Answer.the-variants.{Outside, Unsound, AlreadyClosed, NotAbove, Full, Empty}
+use Rattle.book.specs.declared.answers.Answer.the-variants.{Outside, Unsound, AlreadyClosed, NotAbove, Full, Empty, ShortOutput}
 use Rattle.book.specs.declared.answers.Totals.{Totals}
 use Rattle.book.specs.Machine as machine
 use Rattle.book.specs.Machine.{State, Call, deliver, takeBack, close, totals, capacityOf, outside, notAbove, conditions}
@@ -37,6 +37,7 @@ numberOf AlreadyClosed = 8
 numberOf NotAbove = 9
 numberOf Full = 10
 numberOf Empty = 11
+numberOf ShortOutput = 13
 
 -- the machine's state that a book and the bytes of its journal stand for
 unfoldable pub view : Book → List ℕ → State

@@ -18,6 +18,7 @@ pub enum Answer {
     NotAbove,
     Full,
     Empty,
+    ShortOutput,
 }
 
 // A book handed back, and the answer of the call that hands it back.
@@ -52,6 +53,7 @@ impl Answer {
             Answer::NotAbove => 9,
             Answer::Full => 10,
             Answer::Empty => 11,
+            Answer::ShortOutput => 13,
         }
     }
 }

@@ -14,6 +14,7 @@ pub use answers::Reply;
 pub use answers::Totals;
 use month_file::Point;
 pub use opening::open;
+pub use soundness::is_sound;
 use worth::Figures;
 
 // The book. Its fields are public, and no call trusts them: each tests them against 01's number 7.

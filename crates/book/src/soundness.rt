@@ -30,7 +30,7 @@ struct Afresh {
 }
 
 // Whether the book is sound, as number 7 has it.
-pub(crate) fn is_sound(book: Book, journal: &[u8]) -> bool
+pub fn is_sound(book: Book, journal: &[u8]) -> bool
     ensures { λ r. ⌜ r ≡ not (unsound book (now (journal .entry))) ⌝ }
 {
     let length = book.length;
