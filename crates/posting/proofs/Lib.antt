@@ -1,0 +1,10 @@
+pub mod Delivering
+mod FileWritten
+pub mod Files
+mod Filled
+pub mod InFull
+pub mod PointsWritten
+pub mod PostedBack
+pub mod Refusing
+pub mod WrittenBack
+pub mod WrittenFiles

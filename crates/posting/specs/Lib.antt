@@ -1,0 +1,3 @@
+pub mod Posting
+pub mod RoundTrip
+pub mod Writing
