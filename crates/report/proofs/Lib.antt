@@ -1,0 +1,5 @@
+mod Decimals
+mod Filling
+mod Lines
+pub mod Pages
+mod Printed
