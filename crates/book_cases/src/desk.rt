@@ -1,12 +1,9 @@
 // A book with its journal, and the calls on them. Each call writes its name and its answer.
-use crate::inputs::EXAMPLE;
-use crate::inputs::supplied;
-use crate::inputs::void_book;
-use crate::print::end_of_line;
 use crate::print::hex;
 use crate::print::number;
 use crate::print::places;
 use crate::print::text;
+use crate::same::is_void;
 use crate::same::same_book;
 use crate::same::same_bytes;
 use book::Book;
@@ -66,11 +63,6 @@ impl Desk {
         self
     }
 
-    // Ends the line.
-    pub fn end(self) {
-        end_of_line();
-    }
-
     // The same journal with another book.
     pub fn with_book(self, book: Book) -> Desk {
         let journal = self.journal;
@@ -121,77 +113,19 @@ pub fn opened(file: &[u8]) -> Book {
     let book = reply.book;
     text(b" open");
     number(answer.number() as u64);
-    if same_book(book, void_book()) {
+    if is_void(book) {
         text(b" void");
     }
     book
 }
 
-// A book with a journal of zeros, all of it lent.
-pub fn desk_of(book: Book) -> Desk {
-    let journal = [0u8; 60];
+// A book with a journal of these bytes, all of it lent.
+pub fn desk_of(book: Book, journal: [u8; 60]) -> Desk {
     Desk {
         book,
         journal,
         lent: 60,
     }
-}
-
-// The example's book with no entry yet, over these bytes.
-pub fn over(journal: [u8; 60]) -> Desk {
-    let desk = fresh();
-    let book = desk.book;
-    Desk {
-        book,
-        journal,
-        lent: 60,
-    }
-}
-
-// The example's book with no entry yet.
-pub fn fresh() -> Desk {
-    let reply = open(&EXAMPLE);
-    let book = reply.book;
-    desk_of(book)
-}
-
-// The example's book with its four entries.
-pub fn posted() -> Desk {
-    let file = EXAMPLE;
-    let mut journal = [0u8; 60];
-    let reply = open(&file);
-    let book = reply.book;
-    let book = delivered(book, &mut journal, &file[49..61]);
-    let book = delivered(book, &mut journal, &file[61..73]);
-    let book = delivered(book, &mut journal, &file[73..85]);
-    let book = delivered(book, &mut journal, &file[85..97]);
-    Desk {
-        book,
-        journal,
-        lent: 60,
-    }
-}
-
-// The book after a delivery, without a word.
-fn delivered(book: Book, journal: &mut [u8], bytes: &[u8]) -> Book {
-    let reply = book.deliver(journal, bytes);
-    reply.book
-}
-
-// A case's label, and the example's book with no entry yet.
-pub fn case(label: &[u8]) -> Desk {
-    text(label);
-    fresh()
-}
-
-// A whole case: all four calls in turn. The entry is one that a sound book of the example takes.
-pub fn all_calls(label: &[u8], desk: Desk) {
-    text(label);
-    desk.deliver(&supplied(0, 2, 1, 5))
-        .take_back()
-        .close()
-        .totals()
-        .end();
 }
 
 // Delivers with so many bytes of the buffer lent, or all of them where it has fewer.

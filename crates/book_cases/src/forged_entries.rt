@@ -1,11 +1,9 @@
 // Journals with an entry that no delivery has put there. Only entries without energy stand, so that all
 // sums afresh are 0, and the wrong entry alone can be what 7 finds.
 use crate::desk::Desk;
-use crate::desk::all_calls;
-use crate::desk::over;
-use crate::desk::posted;
-use crate::inputs::entry;
-use crate::inputs::metered;
+use crate::inputs::entry_of;
+use crate::steps::all_calls;
+use crate::steps::over;
 use bits::put;
 use month_file::Entry;
 use month_file::encode_entry;
@@ -15,7 +13,6 @@ pub fn show_all() {
     fields();
     outside();
     versions();
-    not_judged();
 }
 
 // Each bound of the fields, and the closing bits.
@@ -86,25 +83,6 @@ fn versions() {
     );
 }
 
-// What 7 leaves alone: bytes behind the entries, and the mark.
-fn not_judged() {
-    let desk = posted();
-    let journal = desk.journal;
-    let mut book = desk.book;
-    all_calls(
-        b"ff behind the entries",
-        over(behind(journal)).with_book(book),
-    );
-    book.closed = true;
-    all_calls(b"forged mark", desk.with_book(book));
-}
-
-// The journal of four entries with other bytes behind them.
-fn behind(mut journal: [u8; 60]) -> [u8; 60] {
-    put(&mut journal, 384, 56, 0xff_ffff_ffff_ffff);
-    journal
-}
-
 // A first entry with another value in one field. Version 31 of it stands.
 fn stored(label: &[u8], at: usize, width: usize, value: u64)
     requires { ⌜ at + width ≤ 96 ⌝ }
@@ -141,8 +119,8 @@ fn third(mut journal: [u8; 60], entry: Entry) -> [u8; 60] {
 }
 
 // An entry with no energy.
-fn idle(point: u8, quarter: u16, version: u8) -> Entry {
-    entry(point, quarter, version, metered(true, 0, 0, 22_000, 22_000))
+fn idle(point: u32, quarter: u32, version: u32) -> Entry {
+    entry_of([point, quarter, version, 1, 0, 0, 22_000, 22_000])
 }
 
 // A book with another length.

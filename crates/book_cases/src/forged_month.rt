@@ -1,12 +1,15 @@
 // Books whose month, count of points, length or lent journal no call has made. Number 7 has to see each
 // of them, whatever the number in it.
-use crate::desk::all_calls;
-use crate::desk::fresh;
-use crate::desk::posted;
+use crate::desk::Desk;
+use crate::steps::all_calls;
+use crate::steps::fresh;
+use crate::steps::posted;
+use crate::steps::run;
 
 pub fn show_all() {
-    all_calls(b"nothing forged, no entry", fresh());
-    all_calls(b"nothing forged", posted());
+    run(b"nothing forged, no entry", b"Ebct");
+    run(b"nothing forged", b"pEbct");
+    run(b"forged mark", b"pyEbct");
     months();
     counts();
     lengths();
@@ -39,19 +42,24 @@ fn counts() {
 
 // The length beside four entries in a journal of five places. 12 times the last but one is 8 in 64 bits.
 fn lengths() {
-    length(b"forged length 3", 3);
-    length(b"forged length 5", 5);
-    length(b"forged length 6", 6);
-    length(b"forged length 65536", 65_536);
-    length(b"forged length that wraps", 1_537_228_672_809_129_302);
-    length(b"forged length, the largest", 18_446_744_073_709_551_615);
+    let desk = posted();
+    length(desk, b"forged length 3", 3);
+    length(desk, b"forged length 5", 5);
+    length(desk, b"forged length 6", 6);
+    length(desk, b"forged length 65536", 65_536);
+    length(desk, b"forged length that wraps", 1_537_228_672_809_129_302);
+    length(
+        desk,
+        b"forged length, the largest",
+        18_446_744_073_709_551_615,
+    );
 }
 
 // Four entries beside a journal that holds none of them, three of them, or just all.
 fn shorter_journals() {
-    all_calls(b"4 entries, 0 bytes lent", posted().with_lent(0));
-    all_calls(b"4 entries, 47 bytes lent", posted().with_lent(47));
-    all_calls(b"4 entries, 48 bytes lent", posted().with_lent(48));
+    run(b"4 entries, 0 bytes lent", b"p0Ebct");
+    run(b"4 entries, 47 bytes lent", b"p6Ebct");
+    run(b"4 entries, 48 bytes lent", b"p7Ebct");
 }
 
 // The example's book, with no entry, in another month.
@@ -71,9 +79,8 @@ fn count(label: &[u8], count: u8) {
     all_calls(label, desk.with_book(book));
 }
 
-// The example's book with another length.
-fn length(label: &[u8], length: usize) {
-    let desk = posted();
+// A book with another length.
+fn length(desk: Desk, label: &[u8], length: usize) {
     let mut book = desk.book;
     book.length = length;
     all_calls(label, desk.with_book(book));

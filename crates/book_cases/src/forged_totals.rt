@@ -1,125 +1,124 @@
 // Books whose stored totals are not the sums afresh.
 use crate::desk::Desk;
-use crate::desk::all_calls;
-use crate::desk::posted;
+use crate::steps::all_calls;
+use crate::steps::posted;
 use quantity::Amount;
 use quantity::Grains;
 use worth::Figures;
 
+// The columns of the figures, in the order in which totals gives them.
+const ABSOLUTE: u32 = 0;
+
+const PAID: u32 = 1;
+
+const FREE: u32 = 2;
+
+const BILLED: u32 = 3;
+
+const ALLOWANCE: u32 = 4;
+
+const DISCONNECTED: u32 = 5;
+
+const CREDIT: u32 = 6;
+
+const DEBIT: u32 = 7;
+
 pub fn show_all() {
     one_too_high();
     elsewhere();
-    too_low();
     misfiled();
-    largest();
 }
 
 // Each figure of point 1 one too high.
 fn one_too_high() {
     let desk = posted();
-    higher(desk, b"absolute one too high", 1, only(0, 1));
-    higher(desk, b"paid one too high", 1, only(1, 1));
-    higher(desk, b"free one too high", 1, only(2, 1));
-    higher(desk, b"billed one too high", 1, only(3, 1));
-    higher(desk, b"allowance one too high", 1, only(4, 1));
-    higher(desk, b"disconnected one too high", 1, only(5, 1));
-    higher(desk, b"credit one too high", 1, only(6, 1));
-    higher(desk, b"debit one too high", 1, only(7, 1));
+    higher(desk, b"absolute one too high", 1, ABSOLUTE, 1);
+    higher(desk, b"paid one too high", 1, PAID, 1);
+    higher(desk, b"free one too high", 1, FREE, 1);
+    higher(desk, b"billed one too high", 1, BILLED, 1);
+    higher(desk, b"allowance one too high", 1, ALLOWANCE, 1);
+    higher(desk, b"disconnected one too high", 1, DISCONNECTED, 1);
+    higher(desk, b"credit one too high", 1, CREDIT, 1);
+    higher(desk, b"debit one too high", 1, DEBIT, 1);
 }
 
-// A figure one too high at the first point, and at the first and the last place past the count.
+// A figure one too high at the first point and at places past the count, one too low, and as large as
+// it goes.
 fn elsewhere() {
     let desk = posted();
-    higher(desk, b"paid of point 0 one too high", 0, only(1, 1));
-    higher(desk, b"paid at place 2", 2, only(1, 1));
-    higher(desk, b"debit at place 7", 7, only(7, 1));
-}
-
-// A figure one too low.
-fn too_low() {
-    let desk = posted();
-    lower(desk, b"absolute one too low", 1, only(0, 1));
-    lower(desk, b"debit of point 0 one too low", 0, only(7, 1));
-}
-
-// Sums that balance, and are wrong: a grain of point 0 free and not billed, and the replaced third entry
-// of the example still counted.
-fn misfiled() {
-    let grain = only(3, 1);
-    let desk = posted();
-    let book = desk.book;
-    let totals = book.totals;
-    set(
-        desk,
-        b"a billed grain filed as free",
-        0,
-        totals[0].minus(grain).plus(only(2, 1)),
-    );
+    higher(desk, b"paid of point 0 one too high", 0, PAID, 1);
+    higher(desk, b"paid at place 2", 2, PAID, 1);
+    higher(desk, b"debit at place 7", 7, DEBIT, 1);
+    all_calls(b"absolute one too low", lower(desk, 1, ABSOLUTE, 1));
+    all_calls(b"debit of point 0 one too low", lower(desk, 0, DEBIT, 1));
+    higher(desk, b"largest free", 1, FREE, 18_446_744_073_709_551_615);
     higher(
-        desk,
-        b"replaced entry counted",
-        1,
-        only(0, 2_800_000).plus(only(2, 2_800_000)),
-    );
-}
-
-// Figures as large as they go.
-fn largest() {
-    let desk = posted();
-    set(
-        desk,
-        b"largest absolute",
-        1,
-        only(0, 18_446_744_073_709_551_615),
-    );
-    set(
         desk,
         b"largest debit at place 7",
         7,
-        only(7, 18_446_744_073_709_551_615),
+        DEBIT,
+        18_446_744_073_709_551_615,
     );
 }
 
-// A book with figures added at a place.
-fn higher(desk: Desk, label: &[u8], place: usize, more: Figures) {
-    let book = desk.book;
-    let totals = book.totals;
-    if place < 8 {
-        set(desk, label, place, totals[place].plus(more));
-    }
+// Sums that balance, and are wrong: a grain of point 0 free and not billed, and the third entry of the
+// example, which is replaced, still counted.
+fn misfiled() {
+    let desk = posted();
+    higher(
+        lower(desk, 0, BILLED, 1),
+        b"a billed grain filed as free",
+        0,
+        FREE,
+        1,
+    );
+    higher(
+        raised(desk, 1, ABSOLUTE, 2_800_000),
+        b"replaced entry counted",
+        1,
+        FREE,
+        2_800_000,
+    );
 }
 
-// A book with figures subtracted at a place.
-fn lower(desk: Desk, label: &[u8], place: usize, less: Figures) {
-    let book = desk.book;
-    let totals = book.totals;
-    if place < 8 {
-        set(desk, label, place, totals[place].minus(less));
-    }
+// A whole case over a book with more in one figure.
+fn higher(desk: Desk, label: &[u8], place: usize, column: u32, more: u64) {
+    all_calls(label, raised(desk, place, column, more));
 }
 
-// A book with these figures at a place.
-fn set(desk: Desk, label: &[u8], place: usize, figures: Figures) {
+// A book with more in one figure.
+fn raised(desk: Desk, place: usize, column: u32, more: u64) -> Desk {
     let mut book = desk.book;
     let mut totals = book.totals;
     if place < 8 {
-        totals[place] = figures;
+        totals[place] = totals[place].plus(only(column, more));
     }
     book.totals = totals;
-    all_calls(label, desk.with_book(book));
+    desk.with_book(book)
+}
+
+// A book with less in one figure.
+fn lower(desk: Desk, place: usize, column: u32, less: u64) -> Desk {
+    let mut book = desk.book;
+    let mut totals = book.totals;
+    if place < 8 {
+        totals[place] = totals[place].minus(only(column, less));
+    }
+    book.totals = totals;
+    desk.with_book(book)
 }
 
 // Figures that are 0 but for one column.
 fn only(column: u32, n: u64) -> Figures {
     Figures {
-        absolute: grains(column == 0, n),
-        paid: grains(column == 1, n),
-        free: grains(column == 2, n),
-        billed: grains(column == 3, n),
-        allowance: grains(column == 4, n),
-        disconnected: grains(column == 5, n),
-        credit: amount(column == 6, n),
-        debit: amount(column == 7, n),
+        absolute: grains(column == ABSOLUTE, n),
+        paid: grains(column == PAID, n),
+        free: grains(column == FREE, n),
+        billed: grains(column == BILLED, n),
+        allowance: grains(column == ALLOWANCE, n),
+        disconnected: grains(column == DISCONNECTED, n),
+        credit: amount(column == CREDIT, n),
+        debit: amount(column == DEBIT, n),
     }
 }
 

@@ -3,34 +3,25 @@
 // them out.
 //
 // A line is a case. It has a label, then each call with the number answered. Beside a refusal stands
-// `kept` where book and journal are as before, and `void` beside a refused opening that hands back the
-// void book. Totals has the length and, for each place that is not all 0, the place and its eight figures.
-mod capacity;
+// `kept` where book and journal are as before, and `void` beside an opening that hands back the void
+// book. Totals has the length and, for each place that is not all 0, the place and its eight figures.
+mod deliveries;
 mod desk;
 mod forged_entries;
 mod forged_month;
 mod forged_points;
 mod forged_totals;
 mod inputs;
-mod journal_bytes;
 mod openings;
-mod order;
-mod points;
 mod print;
-mod refusals;
 mod same;
-mod sample;
-mod versions;
+mod scripts;
+mod steps;
 
 fn main() {
-    sample::show_all();
-    points::show_all();
-    versions::show_all();
+    scripts::show_all();
+    deliveries::show_all();
     openings::show_all();
-    refusals::show_all();
-    order::show_all();
-    journal_bytes::show_all();
-    capacity::show_all();
     forged_month::show_all();
     forged_points::show_all();
     forged_entries::show_all();

@@ -1,10 +1,10 @@
 // Openings refused by 1, 2, 3 and 4, and the void book that they hand back.
-use crate::desk::all_calls;
 use crate::desk::desk_of;
 use crate::desk::opened;
 use crate::inputs::EXAMPLE;
 use crate::print::end_of_line;
 use crate::print::text;
+use crate::steps::all_calls;
 use bits::put;
 use book::open;
 ghost use Prim.Native.Nat.{_+_, _^_, _≤_, _<_};
@@ -125,5 +125,5 @@ fn opening_cut(label: &[u8], file: [u8; 97]) {
 fn on_void(label: &[u8], file: &[u8]) {
     let reply = open(file);
     let book = reply.book;
-    all_calls(label, desk_of(book));
+    all_calls(label, desk_of(book, [0u8; 60]));
 }

@@ -1,4 +1,5 @@
 // Whether two books, or two journals, are equal in every field and byte.
+use crate::forged_points::point_of;
 use bits::get;
 use book::Book;
 use month_file::Point;
@@ -72,6 +73,24 @@ fn same_totals(a: [Figures; 8], b: [Figures; 8]) -> bool {
         & a[5].equals(b[5])
         & a[6].equals(b[6])
         & a[7].equals(b[7])
+}
+
+// Whether a book is the void one: closed, no points, every number 0.
+pub fn is_void(book: Book) -> bool {
+    let nothing = Figures::none();
+    let none = point_of([0; 14]);
+    let points = [none; 8];
+    let totals = [nothing; 8];
+    let void = Book {
+        year: 0,
+        month: 0,
+        count: 0,
+        points,
+        length: 0,
+        closed: true,
+        totals,
+    };
+    same_book(book, void)
 }
 
 // Whether two journals have the same bytes, 7 at a time and the last 4.
