@@ -1,6 +1,6 @@
 // Runs the records of a month file and the calendar. The bytes below are the header, the points and
-// the entries of document 01's example of February 2024, packed from 01's field lists; they and the
-// answers in `stdout` were compared with packers written apart from this code.
+// the entries of document 01's example of February 2024; docs/month_file_cases.md works them out by
+// hand. They and the answers in `stdout` were compared with packers written apart from this code.
 //
 // A sample's line has the values of its fields and the bytes that encode it again. A bound's line has
 // a field's place and width in bits, the value put there, and whether the record is then read.
