@@ -10,7 +10,9 @@ use lib.ListN.{length, take, drop, length-append, length-drop, take-append-drop}
 use lib.Pow.{pow-pos, pow-add, shr-shr, high, low}
 use lib.Seq.{ext-getD, getD-drop, length-take-le}
 use Rattle.bits.specs.Fields.{AreBytes, number, shift, field, replaced, stored, total, fieldsAt, storedAll, Fit}
-use Rattle.bits.proofs.Numbers.{replaced-above, replaced-part, replaced-below, agree-above, agree-below, part-add, length-bytes, bytes-small, number-bytes, number-lt}
+use Rattle.bits.proofs.Bytes.{length-bytes, bytes-small}
+use Rattle.bits.proofs.Numbers.{replaced-above, replaced-part, replaced-below, agree-above, agree-below, part-add}
+use Rattle.bits.proofs.Numbers.{number-bytes, number-lt}
 
 -- One field.
 

@@ -1,3 +1,4 @@
+pub mod Bytes
 pub mod Laws
 mod Numbers
 mod Words

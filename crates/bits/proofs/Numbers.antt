@@ -1,6 +1,6 @@
 -- Facts of numbers that the laws of fields rest on: which bits of a number a replaced part changes, and bytes as digits.
 -- Assumes nothing.
-use mathlib.Core.Path.{_≡_, refl, sym, ap, ap₂, _∙_, subst}
+use mathlib.Core.Path.{_≡_, sym, ap, ap₂, _∙_, subst}
 use mathlib.Core.List.{List, [], _∷_}
 use Prim.Native.Nat.{ℕ, zero, suc, _+_, _-_, _*_, _/_, _%_, _^_, _≤_, _<_}
 use native.Mathlib.Nat.{mod-lt, mod-one}
@@ -9,6 +9,7 @@ use lib.Arith.{digits-lt}
 use lib.ListN.{length}
 use lib.Pow.{pow-pos, pow-add, shr-shr, high, low, field as part-of-low, mod-mod-pow, mod-pow-add}
 use Rattle.bits.specs.Fields.{AreBytes, number, bytes, replaced}
+use Rattle.bits.proofs.Bytes.{length-bytes}
 
 -- A number with a part replaced.
 
@@ -57,19 +58,6 @@ part-add n s v w =
     mod-pow-add (n / 2 ^ s) v w ∙ ap (λ (x : ℕ). x % 2 ^ v * 2 ^ w + n / 2 ^ s % 2 ^ w) (shr-shr n s w)
 
 -- Bytes as digits.
-
--- there are as many bytes as asked for
-pub length-bytes : (n k : ℕ) → length (bytes n k) ≡ k
-unfolding bytes
-length-bytes n zero = refl
-length-bytes n (suc k) = ap suc (length-bytes n k)
-
--- and they are bytes
-pub bytes-small : (n k : ℕ) → AreBytes (bytes n k)
-unfolding bytes
-bytes-small n zero i = pow-pos 8
-bytes-small n (suc k) zero = mod-lt (n / 2 ^ (8 * k)) (pow-pos 8)
-bytes-small n (suc k) (suc i) = bytes-small n k i
 
 -- the bytes of a number make its lowest bits
 pub number-bytes : (n k : ℕ) → number (bytes n k) ≡ n % 2 ^ (8 * k)

@@ -1,5 +1,5 @@
--- Fields of bits in a list of bytes: what `get` reads and `put` writes, and a record of fields that follow each other without gaps.
--- Bits are counted from the most significant bit of the first byte. Assumes nothing.
+-- Fields of bits in a list of bytes: what `get` reads and `put` writes, and a record of fields that follow each other without gaps;
+-- and the bytes of a number, which `put_word` writes. Bits are counted from the most significant bit of the first byte. Assumes nothing.
 use Prim.Native.Nat.{ℕ, zero, suc, _+_, _-_, _*_, _/_, _%_, _^_, _<_}
 use mathlib.Core.List.{List, [], _∷_}
 use lib.ListN.{length, getD}

@@ -1,12 +1,13 @@
 // Fields of bits in a slice of bytes, at any bit offset and without gaps. Bits are counted from the
 // most significant bit of the first byte. A field has at most 56 bits: at any offset the bytes that
-// it lies in then fit one `u64`.
+// it lies in then fit one `u64`. A number of 64 bits goes into whole bytes, by `put_word`.
 //
 // The contracts cite `specs/Fields.antt`; `proofs/Laws.antt` has the laws of reading after writing.
 ghost use mathlib.Core.Path.{_≡_};
 ghost use Prim.Native.Nat.{_+_, _-_, _*_, _%_, _^_, _≤_, _<_};
 ghost use lib.ListN.{length};
-ghost use Rattle.bits.specs.Fields.{field, stored};
+ghost use lib.Seq.{paste};
+ghost use Rattle.bits.specs.Fields.{field, stored, bytes as bytesOf};
 ghost use Rattle.bits.specs.Place.{Covers};
 
 // The bytes that a field lies in, `count` of them from index `first` on, and how many of their bits
@@ -43,6 +44,16 @@ pub fn put(bytes: &mut [u8], at: usize, width: usize, value: u64)
     let lower = word & ones(span.after);
     let new = (((upper << width) | value) << span.after) | lower;
     store(bytes, span.first, span.count, new);
+}
+
+// Writes a number into the eight bytes from index `at` on, most significant first.
+pub fn put_word(bytes: &mut [u8], at: usize, word: u64)
+    requires { ⌜ at + 8 ≤ length (now bytes) ⌝ }
+    ensures { λ _. ⌜ now (bytes .exit) ≡ paste (now (bytes .entry)) at (bytesOf word 8) 8 ⌝ }
+{
+    for i in 0..8 {
+        bytes[at + i] = ((word >> (56 - 8 * i)) % 256) as u8;
+    }
 }
 
 // Where the field of `width` bits at bit `at` lies.

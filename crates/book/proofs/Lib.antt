@@ -10,6 +10,7 @@ pub mod OneCall
 pub mod Opened
 mod Opens
 pub mod Reading
+pub mod Refusing
 pub mod Sound
 pub mod Standing
 pub mod Standings

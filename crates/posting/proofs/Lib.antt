@@ -5,6 +5,5 @@ mod Filled
 pub mod InFull
 pub mod PointsWritten
 pub mod PostedBack
-pub mod Refusing
 pub mod WrittenBack
 pub mod WrittenFiles

@@ -1,10 +1,11 @@
 -- Document 01, "One quarter-hour": the classification as the members' C program calls it, on plain numbers.
 -- Assumes nothing.
-use Prim.Native.Nat.{ℕ, zero, suc, _*_, _/_, _%_, _^_}
+use Prim.Native.Nat.{ℕ}
 use mathlib.Core.Bool.{Bool, cond, not, _&&_, _||_}
 use mathlib.Core.List.{List, [], _∷_, _++_}
 use lib.Dec.{ltb, leb, eqb}
 use lib.ListN.{length, drop}
+use Rattle.bits.specs.Fields.{bytes}
 use Rattle.quantity.specs.Quantity.{grains, voltage}
 use Rattle.quarter.specs.declared.Role.{Role}
 use Rattle.quarter.specs.declared.Role.the-variants.{Active, SemiActive}
@@ -52,19 +53,14 @@ unfoldable pub meteredOf : Arguments → Metered
 meteredOf a =
     record { lamp = eqb (a .lamp) 1; take = a .take; supply = a .supply; actual = voltage (a .actual); set = voltage (a .set) }
 
--- the lowest k bytes of n, "most significant first"
-unfoldable pub bigEndian : ℕ → ℕ → List ℕ
-bigEndian zero n = []
-bigEndian (suc k) n = n / 2 ^ (8 * k) % 2 ^ 8 ∷ bigEndian k n
-
--- "The five shares, in grains, go in the order above, 8 bytes each"
+-- "The five shares, in grains, go in the order above, 8 bytes each, most significant first"
 unfoldable pub image : Shares → List ℕ
 image s =
-    bigEndian 8 (s .paid .0)
-    ++ bigEndian 8 (s .free .0)
-    ++ bigEndian 8 (s .billed .0)
-    ++ bigEndian 8 (s .allowance .0)
-    ++ bigEndian 8 (s .disconnected .0)
+    bytes (s .paid .0) 8
+    ++ bytes (s .free .0) 8
+    ++ bytes (s .billed .0) 8
+    ++ bytes (s .allowance .0) 8
+    ++ bytes (s .disconnected .0) 8
 
 -- "Arguments out of range get number 5, then a slice under 40 bytes 13"
 unfoldable pub callNumber : Arguments → List ℕ → ℕ

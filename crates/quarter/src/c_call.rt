@@ -8,11 +8,10 @@ use quantity::Grains;
 use quantity::Voltage;
 ghost use mathlib.Core.Path.{_≡_};
 ghost use mathlib.Core.List.{[], _∷_, _++_};
-ghost use Prim.Native.Nat.{_+_, _≤_};
+ghost use Prim.Native.Nat.{_≤_};
 ghost use lib.ListN.{length, drop};
-ghost use lib.Seq.{paste};
 ghost use Rattle.quarter.specs.Refusals.{first};
-ghost use Rattle.quarter.specs.Call.{arguments, inRange, roleOf, levelOf, bigEndian, image, called};
+ghost use Rattle.quarter.specs.Call.{arguments, inRange, roleOf, levelOf, image, called};
 
 // Answers 0 and puts the five shares into the first 40 bytes of `shares`; or 5 for an argument out
 // of range, or 13 for a slice under 40 bytes, and leaves the slice as it is.
@@ -109,20 +108,9 @@ fn store(shares: Shares, bytes: &mut [u8])
     requires { ⌜ 40 ≤ length (now bytes) ⌝ }
     ensures { λ _. ⌜ now (bytes .exit) ≡ image shares ++ drop 40 (now (bytes .entry)) ⌝ }
 {
-    put(bytes, 0, shares.paid);
-    put(bytes, 8, shares.free);
-    put(bytes, 16, shares.billed);
-    put(bytes, 24, shares.allowance);
-    put(bytes, 32, shares.disconnected);
-}
-
-// Puts a share into eight bytes from `at` on, most significant first.
-fn put(bytes: &mut [u8], at: usize, share: Grains)
-    requires { ⌜ at + 8 ≤ length (now bytes) ⌝ }
-    ensures { λ _. ⌜ now (bytes .exit) ≡ paste (now (bytes .entry)) at (bigEndian 8 (share .0)) 8 ⌝ }
-{
-    let grains = share.count();
-    for i in 0..8 {
-        bytes[at + i] = ((grains >> (56 - 8 * i)) % 256) as u8;
-    }
+    bits::put_word(bytes, 0, shares.paid.count());
+    bits::put_word(bytes, 8, shares.free.count());
+    bits::put_word(bytes, 16, shares.billed.count());
+    bits::put_word(bytes, 24, shares.allowance.count());
+    bits::put_word(bytes, 32, shares.disconnected.count());
 }

@@ -1,0 +1,55 @@
+//! Post and totals in one process, on journals of growing length.
+use crate::clock::{median, timed};
+use crate::{ours, table};
+use bench::book::post;
+use bench::months::month;
+use oracle::month_file::ENTRY_SIZE;
+use std::hint::black_box;
+
+/// The times of one side, a run each.
+#[derive(Default)]
+struct Times {
+    post: Vec<f64>,
+    totals: Vec<f64>,
+}
+
+/// Measures both sides on one file of so many entries.
+pub fn measure(count: i64, runs: usize, rounds: u32) {
+    let file = month(count);
+    let mut journal = vec![0; ENTRY_SIZE * count as usize];
+    let (mut of_ours, mut of_rust) = (Times::default(), Times::default());
+    for _ in 0..runs {
+        let found = run_ours(&file, &mut journal, rounds, &mut of_ours);
+        let expected = run_rust(&file, journal.len(), rounds, &mut of_rust);
+        assert_eq!(found, expected, "the totals of {count} entries differ");
+    }
+    let entries = table::grouped(count as u64);
+    table::speeds(count, median(of_ours.post), median(of_rust.post), &format!("post, {entries} entries"));
+    table::times(median(of_ours.totals), median(of_rust.totals), &format!("totals, {entries} entries"));
+}
+
+/// Totals has no call of its own: its time is what a run with it takes longer than one without.
+fn run_ours(file: &[u8], journal: &mut [u8], rounds: u32, times: &mut Times) -> Vec<i64> {
+    let mut answer = [0; ours::ANSWER_SIZE];
+    let ((), post) = timed(|| ours::post_totals(file, journal, 0, &mut answer));
+    let ((), both) = timed(|| ours::post_totals(file, journal, rounds, &mut answer));
+    times.post.push(post);
+    times.totals.push((both - post) / f64::from(rounds));
+    ours::numbers(&answer)
+}
+
+/// The same work in plain Rust, and the numbers that it gives.
+fn run_rust(file: &[u8], journal: usize, rounds: u32, times: &mut Times) -> Vec<i64> {
+    let (book, time) = timed(|| post(black_box(file), journal));
+    let book = book.expect("plain Rust takes the file");
+    times.post.push(time);
+    let mut totals = None;
+    let ((), time) = timed(|| {
+        for _ in 0..rounds {
+            totals = Some(black_box(black_box(&book).totals()));
+        }
+    });
+    times.totals.push(time / f64::from(rounds));
+    let totals = totals.expect("a round").expect("the stored sums are right");
+    ours::expected(book.entries.len(), &totals)
+}

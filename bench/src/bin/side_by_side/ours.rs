@@ -1,0 +1,38 @@
+//! The call of the archive `call_list`, which posts a file and gives its totals.
+use oracle::book::{Figures, PLACES};
+
+/// Bytes of an answer: number, length of the journal's list, and the figures of 8 places.
+pub const ANSWER_SIZE: usize = 8 * (2 + 8 * PLACES);
+
+#[link(name = "call_list", kind = "static")]
+extern "C" {
+    fn reactive_post_totals(
+        file: *const u8,
+        file_length: usize,
+        journal: *mut u8,
+        journal_length: usize,
+        rounds: u32,
+        answer: *mut u8,
+        answer_length: usize,
+    ) -> u32;
+}
+
+/// Posts the file, then calls totals so many times; the last answer stays in the slice.
+pub fn post_totals(file: &[u8], journal: &mut [u8], rounds: u32, answer: &mut [u8]) {
+    let (lent, length) = (journal.as_mut_ptr(), journal.len());
+    // Each pointer and length are those of one slice, and what is written to is lent to nobody else.
+    let number = unsafe {
+        reactive_post_totals(file.as_ptr(), file.len(), lent, length, rounds, answer.as_mut_ptr(), answer.len())
+    };
+    assert_eq!(number, 0, "the library refuses the file");
+}
+
+/// The numbers of an answer: that of totals, the length of the list, and the figures.
+pub fn numbers(answer: &[u8]) -> Vec<i64> {
+    answer.chunks_exact(8).map(|bytes| i64::from_be_bytes(bytes.try_into().expect("8 bytes"))).collect()
+}
+
+/// The same numbers as plain Rust has them.
+pub fn expected(length: usize, totals: &[Figures; PLACES]) -> Vec<i64> {
+    [0, length as i64].into_iter().chain(totals.concat()).collect()
+}

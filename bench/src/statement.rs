@@ -1,0 +1,38 @@
+//! The statement of a month file, as text.
+use crate::book::{post, Book};
+use oracle::book::{Figures, PLACES};
+use oracle::statement::rappen;
+use std::fmt::Write;
+
+const INPUT_MOST: usize = 65_536;
+const JOURNAL: usize = 65_532;
+
+/// The text for what standard input holds.
+pub fn text(input: &[u8]) -> String {
+    match posted(input) {
+        Ok((book, totals)) => lines(&book, &totals),
+        Err(number) => format!("refused {number}\n"),
+    }
+}
+
+/// The book and its totals, or the number that refuses the input.
+fn posted(input: &[u8]) -> Result<(Book, [Figures; PLACES]), u32> {
+    if input.len() > INPUT_MOST {
+        return Err(12);
+    }
+    let book = post(input, JOURNAL)?;
+    let totals = book.totals()?;
+    Ok((book, totals))
+}
+
+/// The month's line, and one for each point.
+fn lines(book: &Book, totals: &[Figures; PLACES]) -> String {
+    let mut text = format!("{}-{:02} {} {}\n", book.year, book.month, book.quarters, book.entries.len());
+    for (point, figures) in totals.iter().take(book.points.len()).enumerate() {
+        let [absolute, paid, free, billed, allowance, disconnected, credit, debit] = figures;
+        let (credit, debit) = (rappen(*credit), rappen(*debit));
+        writeln!(text, "{point} {absolute} {paid} {free} {billed} {allowance} {disconnected} {credit} {debit}")
+            .expect("a string takes any text");
+    }
+    text
+}

@@ -1,0 +1,40 @@
+// What bench/ times, over plain slices: posting a file, and asking for totals again and again.
+use crate::answering::put_totals;
+use book::Book;
+use posting::post;
+ghost use mathlib.Core.Path.{_≡_};
+ghost use Prim.Native.Nat.{_≤_};
+ghost use lib.ListN.{length};
+ghost use Rattle.call_list.specs.Measured.{asked, measured};
+
+// Posts the file, and then asks for totals `rounds` times; what the last call gave goes into the first
+// 528 bytes of `answer`. Gives the number of post, or 13 where `answer` is shorter.
+#[no_mangle]
+pub extern "C" fn reactive_post_totals(
+    file: &[u8],
+    journal: &mut [u8],
+    rounds: u32,
+    answer: &mut [u8],
+) -> u32
+    ensures { λ r. ⌜ (r, (now (journal .exit), now (answer .exit))) ≡ measured (now (file .entry)) (now (journal .entry)) rounds (now (answer .entry)) ⌝ }
+{
+    if answer.len() < 528 {
+        return 13;
+    }
+    let posted = post(file, journal);
+    let book = posted.book;
+    let number = posted.answer;
+    ask(book, journal, rounds, answer);
+    number.number()
+}
+
+// Asks for totals so many times.
+fn ask(book: Book, journal: &[u8], rounds: u32, output: &mut [u8])
+    requires { ⌜ 528 ≤ length (now output) ⌝ }
+    ensures { λ _. ⌜ now (output .exit) ≡ asked rounds book (now (journal .entry)) (now (output .entry)) ⌝ }
+{
+    for _ in 0..rounds {
+        let totals = book.totals(journal);
+        put_totals(output, 0, totals);
+    }
+}

@@ -1,0 +1,160 @@
+//! Inputs of the program `replay`: a file, a journal's length, and a list of calls, refused ones
+//! among them.
+use crate::month_file::{quarters, File};
+use crate::random::Random;
+use crate::right_files::{right_entry, right_file};
+use crate::trial::Case;
+
+pub const TAKE_BACK: u8 = 1;
+pub const CLOSE: u8 = 2;
+pub const TOTALS: u8 = 3;
+
+/// The longest journal that the program lends.
+const JOURNAL_MOST: usize = 786_432;
+
+/// How lists are made.
+struct Plan {
+    group: &'static str,
+    count: usize,
+    /// Entries that the journal can hold, least and most.
+    capacity: [i64; 2],
+    /// Calls, least and most.
+    calls: [i64; 2],
+    /// One call in so many takes back, closes, asks for totals; the others deliver.
+    one_in: [i64; 3],
+}
+
+const PLANS: [Plan; 6] = [
+    Plan { group: "short", count: 600, capacity: [0, 12], calls: [0, 30], one_in: [4, 40, 6] },
+    Plan { group: "totals often", count: 300, capacity: [0, 20], calls: [0, 25], one_in: [4, 60, 2] },
+    Plan { group: "closed early", count: 150, capacity: [0, 8], calls: [3, 30], one_in: [5, 6, 6] },
+    Plan { group: "middling", count: 200, capacity: [10, 80], calls: [50, 150], one_in: [6, 400, 12] },
+    Plan { group: "up and down", count: 40, capacity: [20, 120], calls: [200, 400], one_in: [2, 2_000, 12] },
+    Plan { group: "long", count: 24, capacity: [100, 400], calls: [400, 800], one_in: [12, 3_000, 60] },
+];
+
+pub fn all(seed: u64) -> Vec<Case> {
+    let mut cases = Vec::new();
+    for plan in &PLANS {
+        for _ in 0..plan.count {
+            let mut random = Random::of(seed, cases.len() as u64);
+            cases.push(Case { group: plan.group, input: list(&mut random, plan) });
+        }
+    }
+    for _ in 0..150 {
+        let mut random = Random::of(seed, cases.len() as u64);
+        cases.push(Case { group: "file damaged", input: damaged_file(&mut random) });
+    }
+    cases
+}
+
+fn list(random: &mut Random, plan: &Plan) -> Vec<u8> {
+    let file = right_file(random, 6);
+    let mut bytes = file.bytes();
+    // Open does not judge the entries.
+    if random.once_in(4) {
+        let start = 7 + 21 * file.points.len();
+        let noise = random.bytes(bytes.len() - start);
+        bytes.splice(start.., noise);
+    }
+    let journal = journal(random, plan);
+    let mut input = start(&bytes, journal);
+    let pool = pool(random, &file, plan.calls[1]);
+    for _ in 0..random.between(plan.calls[0], plan.calls[1]) {
+        input.extend(call(random, plan, &file, &pool));
+    }
+    input.push(TOTALS);
+    input.extend(tail(random));
+    input
+}
+
+fn start(file: &[u8], journal: usize) -> Vec<u8> {
+    [&(file.len() as u32).to_be_bytes(), file, &(journal as u32).to_be_bytes()].concat()
+}
+
+fn journal(random: &mut Random, plan: &Plan) -> usize {
+    if random.once_in(30) {
+        return random.one_of(&[JOURNAL_MOST, JOURNAL_MOST - 1, 786_420, 786_419]);
+    }
+    (12 * random.between(plan.capacity[0], plan.capacity[1]) + random.one_of(&[0, 0, 1, 5, 11])) as usize
+}
+
+/// The keys delivered: few, so that versions meet, or as many as calls, so that the journal fills.
+fn pool(random: &mut Random, file: &File, calls: i64) -> Vec<(i64, i64)> {
+    let last = quarters(file.header.year, file.header.month) - 1;
+    let count = random.one_of(&[1, 3, 8, calls, calls, calls]);
+    (0..count)
+        .map(|_| {
+            let any = random.between(0, last);
+            (random.index(file.points.len()) as i64, random.one_of(&[0, last, any, any, any, any, any, any]))
+        })
+        .collect()
+}
+
+fn call(random: &mut Random, plan: &Plan, file: &File, pool: &[(i64, i64)]) -> Vec<u8> {
+    let [take_back_in, close_in, totals_in] = plan.one_in;
+    if random.once_in(close_in) {
+        vec![CLOSE]
+    } else if random.once_in(totals_in) {
+        vec![TOTALS]
+    } else if random.once_in(take_back_in) {
+        vec![TAKE_BACK]
+    } else {
+        let bytes = delivery(random, file, pool);
+        [&[0, bytes.len() as u8], &bytes[..]].concat()
+    }
+}
+
+/// Mostly right entries of the pool's keys; else an entry wrong in one way or in two.
+fn delivery(random: &mut Random, file: &File, pool: &[(i64, i64)]) -> Vec<u8> {
+    let (point, quarter) = random.one_of(pool);
+    let any = random.between(1, 31);
+    let version = random.one_of(&[1, 1, 2, 2, 3, 4, 5, 6, 31, any, any]);
+    let mut entry = right_entry(random, &file.points, point, quarter, version);
+    if random.once_in(12) {
+        entry.point = random.between(0, 7);
+    }
+    if random.once_in(15) {
+        let first_past = quarters(file.header.year, file.header.month);
+        entry.quarter = random.one_of(&[first_past, first_past - 1, 4_095]);
+    }
+    if random.once_in(12) {
+        match random.between(0, 5) {
+            0 => entry.version = 0,
+            1 => entry.take = random.one_of(&[1_000_000, 1_000_001, 1_048_575]),
+            2 => entry.supply = random.one_of(&[1_000_000, 1_000_001, 1_048_575]),
+            3 => entry.actual = random.one_of(&[50_000, 50_001, 65_535]),
+            4 => entry.set = random.one_of(&[50_000, 50_001, 65_535]),
+            _ => entry.closing = random.between(1, 7),
+        }
+    }
+    let mut bytes = entry.bytes();
+    if random.once_in(25) {
+        bytes.resize(random.one_of(&[0, 1, 11, 13, 24, 255]), 0);
+    }
+    bytes
+}
+
+/// What may stand behind the calls: nothing, or a thing that is no whole call and ends the reading.
+fn tail(random: &mut Random) -> Vec<u8> {
+    match random.between(0, 5) {
+        0 => vec![0],
+        1 => vec![0, 12, TOTALS, TOTALS],
+        2 => vec![random.between(4, 255) as u8, TOTALS, TAKE_BACK, TOTALS],
+        3 => vec![0, 255, CLOSE],
+        _ => vec![],
+    }
+}
+
+fn damaged_file(random: &mut Random) -> Vec<u8> {
+    let mut bytes = right_file(random, 6).bytes();
+    let at = random.index(bytes.len());
+    match random.between(0, 3) {
+        0 => bytes.truncate(at),
+        1 => bytes.extend([0; 12]),
+        2 => bytes[at.min(6)] ^= random.one_of(&[1, 2, 4, 8, 16, 32, 64, 128]),
+        _ => bytes[at] = random.draw() as u8,
+    }
+    let journal = 12 * random.index(20);
+    [start(&bytes, journal), vec![TOTALS, TAKE_BACK, CLOSE, TOTALS]].concat()
+}

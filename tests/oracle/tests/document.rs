@@ -1,0 +1,205 @@
+//! The oracle against what document 01 prints: its example, its edges, and the order of its numbers.
+use oracle::bits::{pack, unpack};
+use oracle::book::{open, post, Book};
+use oracle::month_file::{quarters, File, Header, HEADER};
+use oracle::quarter::{c_call, Quarter, Shares};
+use oracle::random::Random;
+use oracle::replay;
+use oracle::right_files::{active, entry, example, right_file, semi_active};
+use oracle::statement::{rappen, text};
+
+const STATEMENT: &str = "\
+2024-02 2784 4
+0 4800000 3200000 0 1600000 0 0 600 1500
+1 2800000 0 0 1600000 1200000 0 0 1000
+";
+
+#[test]
+fn example_prints_as_in_the_document() {
+    assert_eq!(text(&example().bytes()), STATEMENT);
+}
+
+#[test]
+fn example_is_the_sample_of_the_repository() {
+    assert_eq!(example().bytes(), include_bytes!("../../../samples/2024-02.month"));
+}
+
+#[test]
+fn header_is_packed_without_gaps() {
+    let bytes = [0x42, 0x45, 0x7e, 0x82, 0x20, 0x00, 0x04];
+    let header = Header { opening: 0x4245, year: 2024, month: 2, points: 2, entries: 4 };
+    assert_eq!(header.bytes(), bytes);
+    assert_eq!(Header::read(&bytes), header);
+}
+
+#[test]
+fn unpacking_undoes_packing() {
+    let widths = [3, 12, 1, 17, 7];
+    let fields = [5, 2_784, 1, 100_000, 127];
+    assert_eq!(unpack(&pack(&fields, &widths), &widths), fields);
+    assert_eq!(pack(&[1, 0, 0, 0, 0], &HEADER), [0, 1, 0, 0, 0, 0, 0]);
+}
+
+fn point_0(lamp: i64, take: i64, supply: i64, actual: i64, set: i64) -> Shares {
+    Quarter { role: 0, level: 0, band: 0, lamp, take, supply, actual, set }.shares()
+}
+
+fn point_1(take: i64, supply: i64, actual: i64) -> Shares {
+    Quarter { role: 1, level: 1, band: 1_200_000, lamp: 0, take, supply, actual, set: 38_500 }.shares()
+}
+
+#[test]
+fn edges_of_an_active_point() {
+    let all = 1_600_000;
+    let paid = Shares { paid: all, ..Shares::default() };
+    let free = Shares { free: all, ..Shares::default() };
+    let billed = Shares { billed: all, ..Shares::default() };
+    for (actual, shares) in [(22_099, paid), (22_100, free), (22_199, free), (22_200, billed)] {
+        assert_eq!(point_0(1, 0, 1_000, actual, 22_000), shares, "supply at {actual}");
+    }
+    for (actual, shares) in [(21_901, paid), (21_900, free), (21_801, free), (21_800, billed)] {
+        assert_eq!(point_0(1, 1_000, 0, actual, 22_000), shares, "take at {actual}");
+    }
+    assert_eq!(point_0(0, 1_000, 0, 22_000, 22_000), Shares { disconnected: all, ..Shares::default() });
+    assert_eq!(point_0(1, 10, 0, 0, 50), Shares { paid: 16_000, ..Shares::default() });
+    assert_eq!(point_0(1, 10, 10, 0, 50), Shares::default());
+    assert_eq!(point_0(0, 10, 10, 0, 50), Shares::default());
+}
+
+#[test]
+fn edges_of_a_semi_active_point() {
+    let none = Shares::default();
+    let (kvarh, band) = (1_600, 1_200_000);
+    assert_eq!(point_1(750, 0, 38_000), Shares { free: band, ..none });
+    assert_eq!(point_1(751, 0, 38_199), Shares { billed: kvarh, allowance: band, ..none });
+    assert_eq!(point_1(751, 0, 38_200), Shares { free: band + kvarh, ..none });
+    assert_eq!(point_1(0, 751, 38_199), Shares { paid: kvarh, allowance: band, ..none });
+    assert_eq!(point_1(751, 0, 38_801), Shares { paid: kvarh, allowance: band, ..none });
+    assert_eq!(point_1(0, 751, 38_801), Shares { billed: kvarh, allowance: band, ..none });
+    assert_eq!(point_1(5, 5, 38_000), none);
+}
+
+#[test]
+fn rappen_are_rounded_at_the_half() {
+    assert_eq!([0, 799_999, 800_000, 2_399_999, 2_400_000].map(rappen), [0, 0, 1, 1, 2]);
+}
+
+#[test]
+fn calendar_is_gregorian() {
+    assert_eq!(quarters(2024, 2), 2_784);
+    assert_eq!(quarters(2023, 2), 2_688);
+    assert_eq!(quarters(2000, 2), 2_784);
+    assert_eq!(quarters(2100, 2), 2_688);
+    assert_eq!([1, 3, 5, 7, 8, 10, 12].map(|month| quarters(2099, month)), [2_976; 7]);
+    assert_eq!([4, 6, 9, 11].map(|month| quarters(2099, month)), [2_880; 4]);
+}
+
+#[test]
+fn band_is_not_rounded() {
+    let point = semi_active(0, 0, 0, &[(1, 1), (1, 1_599), (3, 7), (4_000, 20_000)]);
+    assert_eq!(point.band(), 1_600 + 21 + 80_000_000);
+}
+
+#[test]
+fn c_call_refuses_an_argument_before_a_slice() {
+    let quarter = Quarter { role: 1, level: 1, band: 1, lamp: 0, take: 1, supply: 0, actual: 0, set: 50_000 };
+    let mut slice = [7; 41];
+    assert_eq!(c_call(&Quarter { band: 0, ..quarter }, &mut slice[..39]), 5);
+    assert_eq!(c_call(&quarter, &mut slice[..39]), 13);
+    assert_eq!(slice, [7; 41]);
+    assert_eq!(c_call(&quarter, &mut slice), 0);
+    assert_eq!(slice[16..33], [0, 0, 0, 0, 0, 0, 6, 63, 0, 0, 0, 0, 0, 0, 0, 1, 0]);
+    assert_eq!(slice[40], 7);
+}
+
+fn small_book(journal: usize) -> Book {
+    open(&File::new(2024, 2, vec![active(0, 300, 1_000, 500)], Vec::new()).bytes(), journal).expect("a right file")
+}
+
+fn delivery(version: i64, supply: i64) -> Vec<u8> {
+    entry([0, 5, version, 1, 0, supply, 22_000, 22_000]).bytes()
+}
+
+#[test]
+fn taking_back_lets_the_earlier_version_stand() {
+    let mut book = small_book(24);
+    assert_eq!(book.deliver(&delivery(2, 10)), 0);
+    assert_eq!(book.deliver(&delivery(2, 20)), 9);
+    assert_eq!(book.deliver(&delivery(3, 20)), 0);
+    assert_eq!(book.totals()[0][0], 32_000);
+    assert_eq!(book.take_back(), 0);
+    assert_eq!(book.totals()[0][0], 16_000);
+    assert_eq!(book.take_back(), 0);
+    assert_eq!(book.take_back(), 11);
+    assert_eq!(book.totals(), [[0; 8]; 8]);
+}
+
+#[test]
+fn numbers_come_in_the_documents_order() {
+    let mut book = small_book(23);
+    assert_eq!(book.deliver(&delivery(31, 10)), 0);
+    assert_eq!(book.deliver(&delivery(31, 10)), 9, "before full");
+    assert_eq!(book.deliver(&entry([0, 6, 1, 1, 0, 1, 0, 0]).bytes()), 10);
+    assert_eq!(book.close(), 0);
+    assert_eq!(book.close(), 8);
+    assert_eq!(book.take_back(), 8);
+    assert_eq!(book.deliver(&delivery(31, 10)), 8, "before the version");
+    assert_eq!(book.deliver(&entry([1, 6, 1, 1, 0, 1, 0, 0]).bytes()), 6, "before closed");
+    assert_eq!(book.deliver(&entry([0, 2_784, 1, 1, 0, 1, 0, 0]).bytes()), 6);
+    assert_eq!(book.deliver(&entry([7, 4_095, 0, 1, 0, 1, 0, 0]).bytes()), 5, "before outside");
+    assert_eq!(book.deliver(&delivery(1, 10)[..11]), 5);
+    assert_eq!(book.entries.len(), 1);
+}
+
+#[test]
+fn files_are_refused_in_the_documents_order() {
+    let bytes = example().bytes();
+    assert_eq!(text(&bytes[..6]), "refused 1\n");
+    assert_eq!(text(&bytes[..7]), "refused 3\n");
+    assert_eq!(text(&[&[0x42, 0x44], &bytes[2..7]].concat()), "refused 2\n", "before the length");
+    let mut wrong_point = bytes.clone();
+    wrong_point[7] = 0x40 | 0x08;
+    assert_eq!(text(&wrong_point), "refused 4\n");
+    assert_eq!(text(&wrong_point[..96]), "refused 3\n", "before the points");
+    assert_eq!(text(&[0; 65_536]), "refused 2\n");
+    assert_eq!(text(&[0; 65_537]), "refused 12\n");
+}
+
+#[test]
+fn post_gives_the_index_of_the_entry_turned_down() {
+    let mut file = example();
+    file.entries[3].version = 1;
+    let posted = post(&file.bytes(), 65_532);
+    assert_eq!((posted.number, posted.index), (9, 3));
+    assert_eq!(posted.book.map(|book| book.entries.len()), Some(3));
+    let posted = post(&example().bytes(), 47);
+    assert_eq!((posted.number, posted.index), (10, 3));
+    assert!(post(&[], 0).book.is_none());
+}
+
+#[test]
+fn replay_ends_at_what_is_no_whole_call() {
+    let file = File::new(2024, 2, vec![active(0, 300, 1_000, 500)], Vec::new()).bytes();
+    let entry = entry([0, 0, 1, 1, 0, 2_000, 22_050, 22_000]).bytes();
+    let deliver = [&[0, 12][..], &entry].concat();
+    let calls = [&deliver[..], &deliver, &[0, 1, 9, 3, 2, 1, 0, 12, 3, 3]].concat();
+    let input = [&[0, 0, 0, 28][..], &file, &[0, 0, 1, 0], &calls].concat();
+    let nothing: String = (1..8).map(|place| format!("{place} 0 0 0 0 0 0 0 0\n")).collect();
+    let totals = format!("totals 0 1\n0 3200000 3200000 0 0 0 0 960000000 0\n{nothing}");
+    let expected = format!("open 0\ndeliver 0\ndeliver 9\ndeliver 5\n{totals}close 0\ntake_back 8\n");
+    assert_eq!(replay::text(&input), expected);
+}
+
+#[test]
+fn right_files_are_posted_in_full_and_their_shares_add_up() {
+    for case in 0..500 {
+        let file = right_file(&mut Random::of(1, case), 60);
+        let posted = post(&file.bytes(), 65_532);
+        assert_eq!(posted.number, 0, "case {case}");
+        let book = posted.book.expect("a posted book");
+        assert_eq!(book.entries, file.entries, "case {case}");
+        for [absolute, paid, free, billed, allowance, disconnected, ..] in book.totals() {
+            assert_eq!(absolute, paid + free + billed + allowance + disconnected, "case {case}");
+        }
+    }
+}
