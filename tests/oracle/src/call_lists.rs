@@ -2,15 +2,13 @@
 //! among them.
 use crate::month_file::{quarters, File};
 use crate::random::Random;
-use crate::right_files::{right_entry, right_file};
+use crate::replay::{ANSWERS_MOST, INPUT_MOST, JOURNAL_MOST, NUMBER_SIZE, TOTALS_SIZE};
+use crate::right_files::{example, right_entry, right_file};
 use crate::trial::Case;
 
 pub const TAKE_BACK: u8 = 1;
 pub const CLOSE: u8 = 2;
 pub const TOTALS: u8 = 3;
-
-/// The longest journal that the program lends.
-const JOURNAL_MOST: usize = 786_432;
 
 /// How lists are made.
 struct Plan {
@@ -45,7 +43,38 @@ pub fn all(seed: u64) -> Vec<Case> {
         let mut random = Random::of(seed, cases.len() as u64);
         cases.push(Case { group: "file damaged", input: damaged_file(&mut random) });
     }
+    cases.extend(cut_short().into_iter().chain(limits()).map(|input| Case { group: "limits", input }));
     cases
+}
+
+/// Every length up to that with which the calls begin.
+fn cut_short() -> Vec<Vec<u8>> {
+    let whole = start(&example().bytes(), 48);
+    (0..=whole.len()).map(|length| whole[..length].to_vec()).collect()
+}
+
+/// As much as the program takes of each thing, and one more.
+fn limits() -> Vec<Vec<u8>> {
+    let file = example().bytes();
+    let with = |journal: usize, calls: Vec<u8>| [start(&file, journal), calls].concat();
+    let totals = ANSWERS_MOST / TOTALS_SIZE;
+    let closes = (ANSWERS_MOST - totals * TOTALS_SIZE) / NUMBER_SIZE;
+    let calls = |closes: usize| [vec![TOTALS; totals], vec![CLOSE; closes]].concat();
+    let long = |length: usize| {
+        let mut input = with(0, vec![TOTALS]);
+        input.resize(length, 255);
+        input
+    };
+    vec![
+        with(JOURNAL_MOST, vec![TOTALS]),
+        with(JOURNAL_MOST + 1, vec![TOTALS]),
+        with(u32::MAX as usize, vec![]),
+        [&u32::MAX.to_be_bytes()[..], &file].concat(),
+        with(48, calls(closes)),
+        with(48, calls(closes + 1)),
+        long(INPUT_MOST),
+        long(INPUT_MOST + 1),
+    ]
 }
 
 fn list(random: &mut Random, plan: &Plan) -> Vec<u8> {

@@ -2,21 +2,47 @@
 //! and calls.
 use crate::book::{open, Book};
 
+/// What the program takes at most: bytes of input, of a journal and of answers.
+pub const INPUT_MOST: usize = 1_600_000;
+pub const JOURNAL_MOST: usize = 786_432;
+pub const ANSWERS_MOST: usize = 1_600_000;
+
+/// Bytes of the answer to totals, and to any other call.
+pub const TOTALS_SIZE: usize = 528;
+pub const NUMBER_SIZE: usize = 8;
+
 /// Ends at the first thing that is no whole call.
 pub fn text(input: &[u8]) -> String {
+    if input.len() > INPUT_MOST {
+        return "input too long\n".to_string();
+    }
     let mut rest = input;
-    let length = number(&mut rest);
-    let file = cut(&mut rest, length).expect("the whole file");
-    let journal = number(&mut rest);
+    let Some((file, journal)) = file_and_journal(&mut rest) else {
+        return "input too short\n".to_string();
+    };
+    if journal > JOURNAL_MOST {
+        return "journal too long\n".to_string();
+    }
     let mut book = match open(file, journal) {
         Ok(book) => book,
         Err(number) => return format!("open {number}\n"),
     };
     let mut text = "open 0\n".to_string();
+    let mut size = 0;
     while let Some(lines) = call(&mut book, &mut rest) {
+        size += if lines.starts_with("totals") { TOTALS_SIZE } else { NUMBER_SIZE };
         text += &lines;
     }
+    if size > ANSWERS_MOST {
+        return "answers too long\n".to_string();
+    }
     text
+}
+
+fn file_and_journal<'a>(rest: &mut &'a [u8]) -> Option<(&'a [u8], usize)> {
+    let length = number(rest)?;
+    let file = cut(rest, length)?;
+    Some((file, number(rest)?))
 }
 
 fn cut<'a>(rest: &mut &'a [u8], length: usize) -> Option<&'a [u8]> {
@@ -28,9 +54,9 @@ fn cut<'a>(rest: &mut &'a [u8], length: usize) -> Option<&'a [u8]> {
     Some(front)
 }
 
-fn number(rest: &mut &[u8]) -> usize {
-    let bytes = cut(rest, 4).expect("four bytes of a length");
-    bytes.iter().fold(0, |sum, &byte| sum * 256 + usize::from(byte))
+fn number(rest: &mut &[u8]) -> Option<usize> {
+    let bytes = cut(rest, 4)?;
+    Some(bytes.iter().fold(0, |sum, &byte| sum * 256 + usize::from(byte)))
 }
 
 fn call(book: &mut Book, rest: &mut &[u8]) -> Option<String> {

@@ -6,8 +6,10 @@ use std::collections::BTreeSet;
 
 const SEED: u64 = 20_240_202;
 
-/// Every answer that an input can get, 7 excepted, which no book so made gets.
-const ANSWERS: [&str; 17] = [
+const CALLS: [&str; 4] = ["deliver ", "take_back ", "close ", "totals "];
+
+/// Every answer that an input can get, 7 excepted, which no book so made gets, and each limit of the program.
+const ANSWERS: [&str; 21] = [
     "open 0",
     "open 1",
     "open 2",
@@ -25,6 +27,10 @@ const ANSWERS: [&str; 17] = [
     "close 0",
     "close 8",
     "totals 0 0",
+    "input too short",
+    "input too long",
+    "journal too long",
+    "answers too long",
 ];
 
 #[test]
@@ -35,8 +41,9 @@ fn replay_prints_what_the_oracle_prints() {
     let mut answers: BTreeSet<String> = BTreeSet::new();
     for case in &cases {
         for line in text(&case.input).lines().filter(|line| line.starts_with(char::is_alphabetic)) {
-            calls += 1;
-            refused += usize::from(line.split(' ').nth(1) != Some("0"));
+            let is_call = CALLS.iter().any(|name| line.starts_with(name));
+            calls += usize::from(is_call);
+            refused += usize::from(is_call && line.split(' ').nth(1) != Some("0"));
             longest = longest.max(line.strip_prefix("totals 0 ").map_or(0, |length| length.parse().expect("a length")));
             answers.insert(line.to_string());
         }
