@@ -18,7 +18,7 @@ use Rattle.call_list.proofs.Stored.{stored-one}
 
 -- a call whose answer takes eight bytes answers its number alone
 alone : (b : Book) (j : List ℕ) (c : Call) → 8 ≡ room c → called b j c .number ∷ [] ≡ numbers (answer b j c)
-unfolding answer answers.given
+unfolding answer answers.lengthAndFigures
 alone b j (deliver bytes) h = refl
 alone b j takeBack h = refl
 alone b j close h = refl

@@ -1,21 +1,19 @@
 -- Totals asked for again and again: what stands in the slice for the answer after so many calls. Assumes nothing.
 use Prim.Native.Nat.{ℕ, zero, suc, _+_, _*_, _≤_, _<_}
 use mathlib.Core.Path.{_≡_, refl, sym, ap, _∙_}
-use mathlib.Core.Bool.{Bool, true, false, cond}
+use mathlib.Core.Bool.{Bool, true, false}
 use mathlib.Core.List.{List, _++_}
 use native.Mathlib.Numerals.{add-one}
 use native.Mathlib.Omega.{arith}
 use borrow.Author.Tests.{lt-ltb, le-ltb}
-use lib.Dec.{ltb}
 use lib.ListN.{length, drop, length-append, length-drop}
 use lib.Seq.{drop-at}
-use Rattle.worth.specs.Figures.{nothing}
 use Rattle.book.specs.declared.Book.{Book}
 use Rattle.book.specs.Machine as machine
 use Rattle.book.specs.Library.{unsound, given, answer}
 use Rattle.book.specs.Machine.{totals}
 use Rattle.book.proofs.Sound.{sound}
-use Rattle.posting.specs.Posting.{Result, posting, result}
+use Rattle.posting.specs.Posting.{Result, posting}
 use Rattle.call_list.specs.Answers as answers
 use Rattle.call_list.specs.Answers.{columns, numbers, image}
 use Rattle.call_list.specs.Measured.{totalsBytes, asked, measured}
@@ -25,7 +23,7 @@ use Rattle.call_list.proofs.Turns.{sound-room}
 
 -- what totals gives takes 528 bytes, on every book
 given-room : (b : Book) (j : List ℕ) → 8 * length (numbers (given b j)) ≡ 528
-unfolding given answer answers.given columns
+unfolding given answer answers.lengthAndFigures columns
 given-room b j = go (unsound b j) refl
   where
     go : (t : Bool) → unsound b j ≡ t → 8 * length (numbers (given b j)) ≡ 528

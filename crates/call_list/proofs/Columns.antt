@@ -11,7 +11,7 @@ use Rattle.bits.specs.Fields.{bytes}
 use Rattle.worth.specs.declared.Figures.{Figures}
 use Rattle.worth.specs.Figures.{figure, nothing, Absolute, Paid, Free, Billed, Allowance, Disconnected, Credit, Debit}
 use Rattle.worth.proofs.Figures.{the-field}
-use Rattle.call_list.specs.Answers.{columns, given}
+use Rattle.call_list.specs.Answers.{columns, lengthAndFigures}
 use Rattle.call_list.specs.Steps.{stored}
 use Rattle.call_list.proofs.Stored.{stored-one, stored-more, stored-next, length-stored}
 
@@ -48,8 +48,8 @@ columns-next fs i h =
     ∙ columns-++ (take i fs) (getD fs i nothing ∷ [])
 
 -- the length of L before figures that are there
-given-some : (n : ℕ) (fs : List Figures) → 0 < length fs → given n fs ≡ n ∷ columns fs
-unfolding given
+given-some : (n : ℕ) (fs : List Figures) → 0 < length fs → lengthAndFigures n fs ≡ n ∷ columns fs
+unfolding lengthAndFigures
 given-some n [] h = absurd (not-suc-le-zero h)
 given-some n (f ∷ fs) h = refl
 
@@ -110,7 +110,7 @@ module _ (out : List ℕ) (at : ℕ) (fs : List Figures) (eight : length fs ≡ 
 -- a number, the length of L and the figures of eight points
 pub totals-stored : (out : List ℕ) (at number entries : ℕ) (fs : List Figures) → length fs ≡ 8 → at + 528 ≤ length out
     → (l₁ l₂ xs : List ℕ) (i : ℕ) → l₁ ≡ paste out at (bytes number 8) 8 → l₂ ≡ paste l₁ (at + 8) (bytes entries 8) 8
-    → 8 ≤ i → xs ≡ filled l₂ (at + 16) fs i → xs ≡ stored out at (number ∷ given entries fs)
+    → 8 ≤ i → xs ≡ filled l₂ (at + 16) fs i → xs ≡ stored out at (number ∷ lengthAndFigures entries fs)
 totals-stored out at number entries fs eight room l₁ l₂ xs i e₁ e₂ h e =
     let one = e₁ ∙ sym (stored-one out at number) in
     let two = e₂ ∙ stored-next out l₁ at (number ∷ []) (at + 8) entries one (omega arith) (omega arith) in

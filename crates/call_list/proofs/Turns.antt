@@ -1,5 +1,5 @@
 -- The calls of a script, made one after the other: what holds after so many of them, and what each turn gives. Assumes nothing.
-use Prim.Native.Nat.{ℕ, suc, _+_, _-_, _*_, _<_, _≤_}
+use Prim.Native.Nat.{ℕ, _+_, _-_, _*_, _<_, _≤_}
 use mathlib.Core.Path.{_≡_, refl, sym, ap, _∙_}
 use mathlib.Core.List.{List, [], _∷_, _++_}
 use native.Mathlib.Omega.{arith}
@@ -13,14 +13,14 @@ use Rattle.book.proofs.Demand.{same-answers}
 use Rattle.book.proofs.OneCall.{answers-alike, kept}
 use Rattle.book.proofs.Sound.{Sound}
 use Rattle.call_list.specs.Script.{sizeAt, callAt, callsFrom, calls}
-use Rattle.call_list.specs.Answers.{columns, given, numbers, allNumbers}
+use Rattle.call_list.specs.Answers.{columns, lengthAndFigures, numbers, allNumbers}
 use Rattle.call_list.specs.Steps.{room, roomOf, stored}
 use Rattle.call_list.proofs.Scripts.{whole-end, calls-next}
 use Rattle.call_list.proofs.Stored.{stored-more, stored-none}
 
 -- the machine's answer to a call takes the room of that call
 machine-room : (s : State) (c : Call) → 8 * length (numbers (machine.answer s c)) ≡ room c
-unfolding machine.answer totalsOf given columns
+unfolding machine.answer totalsOf lengthAndFigures columns
 machine-room s (deliver bytes) = refl
 machine-room s takeBack = refl
 machine-room s close = refl

@@ -21,14 +21,14 @@ columns (f ∷ fs) =
     ∷ figure f Debit
     ∷ columns fs
 
--- the length of L before the figures, where there are figures
-unfoldable pub given : ℕ → List Figures → List ℕ
-given n [] = []
-given n (f ∷ fs) = n ∷ columns (f ∷ fs)
+-- the length of L and the figures, where there are figures
+unfoldable pub lengthAndFigures : ℕ → List Figures → List ℕ
+lengthAndFigures n [] = []
+lengthAndFigures n (f ∷ fs) = n ∷ columns (f ∷ fs)
 
 -- the numbers of an answer, and of answers one after the other
 abbrev pub numbers : Answer → List ℕ
-numbers a = a .number ∷ given (a .entries) (a .figures)
+numbers a = a .number ∷ lengthAndFigures (a .entries) (a .figures)
 
 unfoldable pub allNumbers : List Answer → List ℕ
 allNumbers [] = []

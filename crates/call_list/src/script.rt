@@ -1,6 +1,6 @@
 // A list of calls as bytes: where each call ends, and what room its answer takes.
 ghost use mathlib.Core.Path.{_≡_};
-ghost use Prim.Native.Nat.{_+_, _≤_, _<_};
+ghost use Prim.Native.Nat.{_+_, _<_};
 ghost use lib.Dec.{leb};
 ghost use lib.ListN.{length};
 ghost use Rattle.call_list.specs.Script.{deliverySize, sizeAt, callAt, calls};

@@ -1,14 +1,14 @@
 -- Demand 2: paid, free and billed energy and both amounts of document 01's reading are those of source document 004.
 -- Assumes nothing.
-use Prim.Native.Nat.{ℕ, _+_, _-_, _*_, _≤_, _<_}
-use mathlib.Core.Path.{_≡_, refl, sym, ap, ap₂, _∙_}
+use Prim.Native.Nat.{ℕ, _+_, _-_, _*_, _<_}
+use mathlib.Core.Path.{_≡_, refl, sym, ap}
 use mathlib.Core.Bool.{Bool, true, false, cond, not, _&&_, false≢true}
 use mathlib.Core.List.{[], _∷_}
 use native.Mathlib.Nat.{mul-one, mul-zero, add-zero, add-assoc, le-of-lt}
 use native.Mathlib.Omega.{arith}
 use borrow.Author.Tests.{ltb-true, ltb-false, lt-ltb, le-ltb, le-leb, lt-leb, eq-eqb, ne-eqb}
 use lib.Dec.{ltb, leb}
-use lib.IntN.{ℤ, pos, subℕ, _+ℤ_, _-ℤ_, _*ℤ_}
+use lib.IntN.{ℤ, pos, subℕ, _*ℤ_}
 use Rattle.quantity.specs.declared.Grains.{Grains}
 use Rattle.quantity.specs.Quantity.{grains}
 use Rattle.quarter.specs.declared.Role.{Role}
@@ -19,12 +19,12 @@ use Rattle.quarter.specs.declared.Class.the-variants.{Paid, Free, Billed
 use Rattle.quarter.specs.declared.Metered.{Metered}
 use Rattle.quarter.specs.declared.Shares.{Shares}
 use Rattle.quarter.specs.declared.Tariffs.{Tariffs}
-use Rattle.quarter.specs.Reading.{absolute, shares, none, filed, tolerance, activeFree, activeSupply, activeTake, semiActiveFree}
+use Rattle.quarter.specs.Reading.{absolute, none, filed, tolerance, activeFree, activeSupply, activeTake, semiActiveFree}
 use Rattle.quarter.specs.Reading.{semiActive, helpsBySupply, helpsByTake, ofRole, exchanged, classified, creditOf, debitOf}
-use Rattle.quarter.specs.Source.{brace, WQ, |WQ|, LL, ΔUTol, ΔUFreiAktiv, ΔUFreiHalbaktiv, vergütetAktiv, freiAktiv, verrechnetAktiv}
+use Rattle.quarter.specs.Source.{brace, LL, ΔUTol, ΔUFreiAktiv, ΔUFreiHalbaktiv, vergütetAktiv, freiAktiv, verrechnetAktiv}
 use Rattle.quarter.specs.Source.{freiHalbaktiv, outsideFreeBand, vergütetHalbaktiv, verrechnetHalbaktiv, vergütet, frei, verrechnet, VB, RB}
 use Rattle.quarter.specs.Agreement.{Said, Lawful, Agrees}
-use Rattle.quarter.proofs.Signed.{same-test, not-below, difference, differences, below-of-difference, most-of-difference}
+use Rattle.quarter.proofs.Signed.{not-below, difference, differences, below-of-difference, most-of-difference}
 use Rattle.quarter.proofs.Signed.{below-difference, most-difference, supplies, takes, size}
 use Rattle.quarter.proofs.Directions.{and-comm}
 

@@ -2,17 +2,15 @@
 -- Assumes nothing.
 use Prim.Native.Nat.{ℕ, _+_, _*_, _≤_, _<_}
 use mathlib.Core.Path.{_≡_}
-use mathlib.Core.List.{List}
 use lib.IntN.{pos}
-use Rattle.quantity.specs.Quantity.{amount}
 use Rattle.quarter.specs.declared.Role.{Role}
 use Rattle.quarter.specs.declared.Role.the-variants.{Active, SemiActive}
 use Rattle.quarter.specs.declared.Level.{Level}
 use Rattle.quarter.specs.declared.Metered.{Metered}
 use Rattle.quarter.specs.declared.Shares.{Shares}
 use Rattle.quarter.specs.declared.Tariffs.{Tariffs}
-use Rattle.quarter.specs.Reading.{absolute, shares, none, classified, creditOf, debitOf, valued, Transformer, band}
-use Rattle.quarter.specs.Source.{vergütet, frei, verrechnet, VB, RB, ΔWQlim}
+use Rattle.quarter.specs.Reading.{absolute, classified, creditOf, debitOf}
+use Rattle.quarter.specs.Source.{vergütet, frei, verrechnet, VB, RB}
 
 -- 4.2 has a line for |W_Q| < ΔW_Q,lim and one for |W_Q| > ΔW_Q,lim, and none for the two being equal
 abbrev pub Said : Role → Metered → Type 0

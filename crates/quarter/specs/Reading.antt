@@ -2,7 +2,7 @@
 -- hundredths of a kilovolt. A signed difference stands here as a sum on the other side: U > S − T is S < U + T.
 -- Assumes nothing.
 use Prim.Native.Nat.{ℕ, _+_, _-_, _*_}
-use mathlib.Core.Bool.{Bool, true, false, cond, _&&_}
+use mathlib.Core.Bool.{Bool, true, cond, _&&_}
 use mathlib.Core.List.{List, [], _∷_}
 use lib.Dec.{ltb, leb, eqb}
 use Rattle.quantity.specs.declared.Grains.{Grains}
