@@ -1,14 +1,17 @@
--- What a decoder and an encoder answer, from the tests that lead to the answer: one argument for the three records.
+-- What a decoder and an encoder answer, from the tests that lead to the answer: one argument for the three kinds of record.
 -- Assumes nothing.
-use Prim.Native.Nat.{ℕ, _<_}
+use Prim.Native.Nat.{ℕ, _*_, _≤_, _<_}
 use mathlib.Core.Path.{_≡_, refl, sym, ap, _∙_}
-use mathlib.Core.Bool.{Bool, true, false, false≢true, cond, not, _&&_}
-use mathlib.Core.List.{List}
+use mathlib.Core.Bool.{Bool, true, false, false≢true, not, _&&_}
+use mathlib.Core.List.{List, [], _∷_}
 use native.Mathlib.Omega.{arith}
 use borrow.Author.Tests.{eq-eqb, ne-eqb, eqb-true, not-true, not-false}
 use lib.Dec.{eqb}
 use lib.ListN.{length}
 use mir.Val.{boolByte}
+use Rattle.bits.specs.Fields.{total, fieldsAt, storedAll, Fit}
+use Rattle.month_file.specs.Layout.{Narrow, Layout}
+use Rattle.month_file.specs.Record.{Kind, judged, decoded, encoded}
 
 -- two tests that hold together
 pub both : (a b : Bool) → (a && b) ≡ true → (a ≡ true) × (b ≡ true)
@@ -16,37 +19,66 @@ both true true h = (refl, refl)
 both true false h = (refl, h)
 both false b h = (h, absurd (false≢true h))
 
+-- a test and those that follow it, as one test and one by one
+abbrev pub joined : Bool → List Bool → Bool
+joined a [] = a
+joined a (b ∷ bs) = joined (a && b) bs
+
+abbrev pub Hold : Bool → List Bool → Type 0
+Hold a [] = a ≡ true
+Hold a (b ∷ bs) = (a ≡ true) × Hold b bs
+
+-- tests that hold together hold one by one
+apart : (a b : Bool) (bs : List Bool) → Hold (a && b) bs → (a ≡ true) × Hold b bs
+apart a b [] h = both a b h
+apart a b (c ∷ bs) h = let k = both a b (h .0) in (k .0, (k .1, h .1))
+
+pub each : (a : Bool) (bs : List Bool) → joined a bs ≡ true → Hold a bs
+each a [] h = h
+each a (b ∷ bs) h = apart a b bs (each (a && b) bs h)
+
 -- a bool fits one bit
 pub bit-fits : (b : Bool) → boolByte b < 2
 bit-fits false = omega arith
 bit-fits true = omega arith
 
--- a slice of the record's length, and one of another
-pub of-length : {A : Type 0} (n : ℕ) (bytes : List ℕ) {a b : A} (c : A) → length bytes ≡ n → a ≡ b → a ≡ cond (eqb (length bytes) n) b c
-of-length n bytes c h e = rw (eq-eqb (length bytes) n h) e
+-- What holds of each kind: its fields fill its bytes, are of a size that `bits` takes, and hold a record that is in range.
+pub record Lawful {R : Type 0} (k : Kind R) : Type 0 where
+  pub filled : total (k .widths) ≡ 8 * k .size
+  pub short : k .size ≤ 21
+  pub narrow : Narrow (k .widths)
+  pub fit : (x : R) → k .inRange x ≡ true → Fit (k .widths) (k .values x)
 
-pub of-another : {A : Type 0} (n : ℕ) (bytes : List ℕ) (b c : A) → (length bytes ≡ n → ⊥) → c ≡ cond (eqb (length bytes) n) b c
-of-another n bytes b c h = rw (ne-eqb (length bytes) n h)
+pub layout : {R : Type 0} {k : Kind R} → Lawful k → (bytes : List ℕ) → length bytes ≡ k .size → Layout bytes (k .widths)
+layout {k = k} l bytes h = record { inside = omega (arith, l .filled); short = omega (arith, l .short); narrow = l .narrow }
 
--- a decoder's answer where `x` is the record that the fields make, and `closed` says that the fixed bits are right
-module _ {R A : Type 0} (inRange : R → Bool) (read : R → A) (refused : A) (closed : Bool) {x y : R} (e : x ≡ y) {good : Bool} (eg : good ≡ inRange x) where
-  pub accepts : (closed && good) ≡ true → read x ≡ cond (closed && inRange y) (read y) refused
-  accepts t = rw (← e, ← eg, t)
+-- A decoder's answer to a slice of another length than the record's, and to one of its length, where `x` is the record that the
+-- fields make.
+module _ {R A : Type 0} (k : Kind R) (read : R → A) (refused : A) (bytes : List ℕ) where
+  pub other : (length bytes ≡ k .size → ⊥) → refused ≡ decoded k read refused bytes
+  other h = rw (ne-eqb (length bytes) (k .size) h)
 
-  pub refuses : (closed && good) ≡ false → refused ≡ cond (closed && inRange y) (read y) refused
-  refuses t = rw (← e, ← eg, t)
+  module _ (h : length bytes ≡ k .size) (vs : List ℕ) (e : vs ≡ fieldsAt bytes 0 (k .widths))
+      {x : R} (ex : x ≡ k .of vs) {good : Bool} (eg : good ≡ k .inRange x) where
+    reached : judged k read refused vs ≡ decoded k read refused bytes
+    reached = rw (eq-eqb (length bytes) (k .size) h) (ap (judged k read refused) e)
 
--- an encoder's answer
-module _ {R : Type 0} (inRange : R → Bool) (n : ℕ) (x : R) (bytes out : List ℕ) {good : Bool} (eg : good ≡ inRange x) where
-  pub writes : (after : List ℕ) → after ≡ out → not (eqb (length bytes) n && good) ≡ false
-      → _≡_ {A = Bool × List ℕ} (true, after) (cond (eqb (length bytes) n && inRange x) (true, out) (false, bytes))
-  writes after e t = rw (← eg, not-false (eqb (length bytes) n && good) t, e)
+    pub accepted : (k .fixed vs && good) ≡ true → read x ≡ decoded k read refused bytes
+    accepted t = let j : read x ≡ judged k read refused vs = rw (← ex, ← eg, t) in j ∙ reached
 
-  pub keeps : not (eqb (length bytes) n && good) ≡ true → _≡_ {A = Bool × List ℕ} (false, bytes) (cond (eqb (length bytes) n && inRange x) (true, out) (false, bytes))
-  keeps t = rw (← eg, not-true (eqb (length bytes) n && good) t)
+    pub turned-down : (k .fixed vs && good) ≡ false → refused ≡ decoded k read refused bytes
+    turned-down t = let j : refused ≡ judged k read refused vs = rw (← ex, ← eg, t) in j ∙ reached
 
-  -- what the encoder's test says
-  pub tested : not (eqb (length bytes) n && good) ≡ false → (length bytes ≡ n) × (inRange x ≡ true)
-  tested t =
-      let b = both (eqb (length bytes) n) good (not-false (eqb (length bytes) n && good) t) in
-      (eqb-true (length bytes) n (b .0), sym eg ∙ b .1)
+-- An encoder's answer; where it writes, what the test says gives what writing asks.
+module _ {R : Type 0} (k : Kind R) (x : R) (bytes : List ℕ) {good : Bool} (eg : good ≡ k .inRange x) where
+  pub kept : not (eqb (length bytes) (k .size) && good) ≡ true → _≡_ {A = Bool × List ℕ} (false, bytes) (encoded k x bytes)
+  kept t = rw (← eg, not-true (eqb (length bytes) (k .size) && good) t)
+
+  module _ (t : not (eqb (length bytes) (k .size) && good) ≡ false) (vs : List ℕ) (e : vs ≡ k .values x) where
+    pub fits : Lawful k → Layout bytes (k .widths) × Fit (k .widths) vs
+    fits l =
+        let b = both (eqb (length bytes) (k .size)) good (not-false (eqb (length bytes) (k .size) && good) t) in
+        (layout l bytes (eqb-true (length bytes) (k .size) (b .0)), rw e (l .fit x (sym eg ∙ b .1)))
+
+    pub written : (after : List ℕ) → after ≡ storedAll bytes 0 (k .widths) vs → _≡_ {A = Bool × List ℕ} (true, after) (encoded k x bytes)
+    written after w = rw (← eg, not-false (eqb (length bytes) (k .size) && good) t, w, e)

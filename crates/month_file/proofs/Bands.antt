@@ -2,7 +2,7 @@
 use Prim.Native.Nat.{ℕ, zero, suc, _+_, _*_, _^_, _≤_, _<_}
 use mathlib.Core.Path.{_≡_, refl, ap, _∙_}
 use mathlib.Core.Bool.{Bool, true, false, not}
-use mathlib.Core.List.{List, [], _∷_}
+use mathlib.Core.List.{[], _∷_}
 use native.Mathlib.Nat.{mul-le-mul}
 use native.Mathlib.Omega.{arith}
 use borrow.Author.Tests.{lt-ltb, not-true, not-false}
@@ -15,7 +15,7 @@ use Rattle.quarter.specs.Reading.{band}
 use Rattle.month_file.specs.declared.point.Transformer.{Transformer}
 use Rattle.month_file.specs.declared.point.Point.{Point}
 use Rattle.month_file.specs.Point.{pointInRange, rated, counted, product}
-use Rattle.month_file.proofs.Points.{Most, InRange, in-range}
+use Rattle.month_file.proofs.Points.{Most, in-range}
 
 -- a product of two numbers of 16 bits
 pub product-lt : (a b : ℕ) → a < 2 ^ 16 → b < 2 ^ 16 → a * b < 2 ^ 32

@@ -6,14 +6,15 @@ use mathlib.Core.Bool.{Bool, true, false, false≢true, cond, _&&_}
 use mathlib.Core.List.{List}
 use borrow.Author.Tests.{eqb-true}
 use lib.Dec.{eqb}
-use lib.ListN.{length, getD}
+use lib.ListN.{length}
 use Rattle.bits.specs.Fields.{fieldsAt}
 use Rattle.month_file.specs.declared.entry.EntryAnswer.the-variants as entry-answer
 use Rattle.month_file.specs.declared.header.HeaderAnswer.the-variants as header-answer
 use Rattle.month_file.specs.declared.point.PointAnswer.the-variants as point-answer
-use Rattle.month_file.specs.Entry.{entryWidths, entryOf, entryInRange, entryFrom, decodedEntry, entryIn, unreadable, isRefused as entryRefused}
-use Rattle.month_file.specs.Header.{headerWidths, headerOf, headerInRange, headerFrom, decodedHeader, headerIn, wrongHeader, isRefused as headerRefused}
-use Rattle.month_file.specs.Point.{pointWidths, pointOf, pointInRange, pointFrom, decodedPoint, pointIn, wrongPoint, isRefused as pointRefused}
+use Rattle.month_file.specs.Entry.{entryInRange, entryKind, decodedEntry, entryIn, unreadable, isRefused as entryRefused}
+use Rattle.month_file.specs.Header.{headerInRange, headerKind, decodedHeader, headerIn, wrongHeader, isRefused as headerRefused}
+use Rattle.month_file.specs.Point.{pointInRange, pointKind, decodedPoint, pointIn, wrongPoint, isRefused as pointRefused}
+use Rattle.month_file.specs.Record.{Kind, within, decoded}
 use Rattle.month_file.proofs.Answers.{both}
 
 -- What a decoder's answer says of the bytes, where `within` is the record that their fields make.
@@ -28,18 +29,11 @@ pub record Reads {R A : Type 0} (size : ℕ) (inRange : R → Bool) (read : R �
   -- and what is answered by a refusal is refused
   pub refused-is : (bytes : List ℕ) → decoded bytes ≡ refused → refuses bytes ≡ true
 
-module _ {R A : Type 0} (size : ℕ) (ws : List ℕ) (of : List ℕ → R) (closed : List ℕ → Bool) (inRange : R → Bool) (read : R → A)
-    (refused : A) (isRefused : A → Bool) (reads : (x : R) → isRefused (read x) ≡ false) (refuses : isRefused refused ≡ true)
-    (same : (x y : R) → read x ≡ read y → x ≡ y) where
-  -- the record that the fields make, the test that they pass, and the decoder
-  abbrev within : List ℕ → R
-  within bytes = of (fieldsAt bytes 0 ws)
-
+module _ {R A : Type 0} (k : Kind R) (read : R → A) (refused : A) (isRefused : A → Bool)
+    (reads : (x : R) → isRefused (read x) ≡ false) (refuses : isRefused refused ≡ true) (same : (x y : R) → read x ≡ read y → x ≡ y) where
+  -- the test that the fields pass
   abbrev passes : List ℕ → Bool
-  passes bytes = closed (fieldsAt bytes 0 ws) && inRange (within bytes)
-
-  abbrev decoded : List ℕ → A
-  decoded bytes = cond (eqb (length bytes) size) (cond (passes bytes) (read (within bytes)) refused) refused
+  passes bytes = k .fixed (fieldsAt bytes 0 (k .widths)) && k .inRange (within k bytes)
 
   -- an answer that is no refusal was given after both tests
   tested : (a b : Bool) (x : R) → isRefused (cond a (cond b (read x) refused) refused) ≡ false → (a ≡ true) × (b ≡ true)
@@ -48,42 +42,39 @@ module _ {R A : Type 0} (size : ℕ) (ws : List ℕ) (of : List ℕ → R) (clos
   tested false b x h = absurd (false≢true (sym h ∙ refuses))
 
   -- so the bytes have the size and pass the test
-  shown : (bytes : List ℕ) → isRefused (decoded bytes) ≡ false → (eqb (length bytes) size ≡ true) × (passes bytes ≡ true)
-  shown bytes h = tested (eqb (length bytes) size) (passes bytes) (within bytes) h
+  shown : (bytes : List ℕ) → isRefused (decoded k read refused bytes) ≡ false
+      → (eqb (length bytes) (k .size) ≡ true) × (passes bytes ≡ true)
+  shown bytes h = tested (eqb (length bytes) (k .size)) (passes bytes) (within k bytes) h
 
   -- and the answer is the record
-  found : (bytes : List ℕ) → isRefused (decoded bytes) ≡ false → decoded bytes ≡ read (within bytes)
+  found : (bytes : List ℕ) → isRefused (decoded k read refused bytes) ≡ false → decoded k read refused bytes ≡ read (within k bytes)
   found bytes h = let s = shown bytes h in rw (s .0, s .1)
 
   -- the four together
-  all-read : Reads size inRange read refused decoded within (λ bytes. isRefused (decoded bytes))
+  all-read : Reads (k .size) (k .inRange) read refused (decoded k read refused) (within k)
+      (λ bytes. isRefused (decoded k read refused bytes))
   all-read =
       record {
         readable = found;
         range =
             λ bytes h.
             let s = shown bytes h in
-            (both (closed (fieldsAt bytes 0 ws)) (inRange (within bytes)) (s .1) .1, eqb-true (length bytes) size (s .0));
-        read-is = λ bytes x e. let r = ap isRefused e ∙ reads x in (r, same (within bytes) x (sym (found bytes r) ∙ e));
+            let b = both (k .fixed (fieldsAt bytes 0 (k .widths))) (k .inRange (within k bytes)) (s .1) in
+            (b .1, eqb-true (length bytes) (k .size) (s .0));
+        read-is = λ bytes x e. let r = ap isRefused e ∙ reads x in (r, same (within k bytes) x (sym (found bytes r) ∙ e));
         refused-is = λ bytes e. ap isRefused e ∙ refuses;
       }
 
 -- The three records.
 
 pub header-reads : Reads 7 headerInRange header-answer.Read header-answer.Refused decodedHeader headerIn wrongHeader
-unfolding decodedHeader headerFrom headerIn wrongHeader
-header-reads =
-    all-read 7 headerWidths headerOf (λ vs. eqb (getD vs 0 0) 0x42 && eqb (getD vs 1 0) 0x45) headerInRange
-    header-answer.Read header-answer.Refused headerRefused (λ x. refl) refl (λ x y e. cc)
+unfolding decodedHeader headerIn wrongHeader
+header-reads = all-read headerKind header-answer.Read header-answer.Refused headerRefused (λ x. refl) refl (λ x y e. cc)
 
 pub entry-reads : Reads 12 entryInRange entry-answer.Read entry-answer.Refused decodedEntry entryIn unreadable
-unfolding decodedEntry entryFrom entryIn unreadable
-entry-reads =
-    all-read 12 entryWidths entryOf (λ vs. eqb (getD vs 8 0) 0) entryInRange entry-answer.Read entry-answer.Refused
-    entryRefused (λ x. refl) refl (λ x y e. cc)
+unfolding decodedEntry entryIn unreadable
+entry-reads = all-read entryKind entry-answer.Read entry-answer.Refused entryRefused (λ x. refl) refl (λ x y e. cc)
 
 pub point-reads : Reads 21 pointInRange point-answer.Read point-answer.Refused decodedPoint pointIn wrongPoint
-unfolding decodedPoint pointFrom pointIn wrongPoint
-point-reads =
-    all-read 21 pointWidths pointOf (λ vs. true) pointInRange point-answer.Read point-answer.Refused
-    pointRefused (λ x. refl) refl (λ x y e. cc)
+unfolding decodedPoint pointIn wrongPoint
+point-reads = all-read pointKind point-answer.Read point-answer.Refused pointRefused (λ x. refl) refl (λ x y e. cc)

@@ -1,94 +1,90 @@
 -- The decoders and the encoders undo each other: one argument, and the three records under it. Assumes nothing.
-use Prim.Native.Nat.{ℕ, _+_, _*_, _<_}
-use mathlib.Core.Path.{_≡_, refl, sym, ap, ap₂, _∙_}
-use mathlib.Core.Bool.{Bool, true, false, false≢true, cond, _&&_}
-use mathlib.Core.List.{List, [], _∷_}
+use Prim.Native.Nat.{ℕ, _<_}
+use mathlib.Core.Path.{_≡_, refl, sym, ap, _∙_}
+use mathlib.Core.Bool.{Bool, true, false, cond, _&&_}
+use mathlib.Core.List.{List}
 use native.Mathlib.Omega.{arith}
-use borrow.Author.Tests.{eq-eqb, ne-eqb, eqb-true, eqb-false}
+use borrow.Author.Tests.{eq-eqb, eqb-true, eqb-false}
 use lib.Dec.{eqb}
-use lib.ListN.{length, getD}
+use lib.ListN.{length}
 use mir.Val.{boolByte}
-use Rattle.bits.specs.Fields.{AreBytes, total, field, fieldsAt, storedAll, Fit}
+use Rattle.bits.specs.Fields.{AreBytes, field, fieldsAt, storedAll}
 use Rattle.bits.proofs.Laws.{field-lt, length-storedAll, fields-stored, stored-fields}
 use Rattle.quarter.specs.declared.Level.{Level}
 use Rattle.quarter.specs.declared.Level.the-variants.{Kv220, Kv380}
 use Rattle.quarter.specs.Call.{levelOf}
 use Rattle.month_file.specs.declared.entry.Entry.{Entry}
 use Rattle.month_file.specs.declared.entry.EntryAnswer.the-variants as entry-answer
-use Rattle.month_file.specs.declared.header.Header.{Header}
 use Rattle.month_file.specs.declared.header.HeaderAnswer.the-variants as header-answer
 use Rattle.month_file.specs.declared.point.Point.{Point}
 use Rattle.month_file.specs.declared.point.PointAnswer.the-variants as point-answer
-use Rattle.month_file.specs.Entry.{entryWidths, entryValues, entryOf, entryInRange, entryFrom, decodedEntry, encodedEntry}
-use Rattle.month_file.specs.Header.{headerWidths, headerValues, headerOf, headerInRange, headerFrom, decodedHeader, encodedHeader}
-use Rattle.month_file.specs.Point.{pointWidths, levelBit, pointValues, pointOf, pointInRange, pointFrom, decodedPoint, encodedPoint}
+use Rattle.month_file.specs.Entry.{entryValues, entryOf, entryInRange, entryKind, decodedEntry, encodedEntry}
+use Rattle.month_file.specs.Header.{headerInRange, headerKind, decodedHeader, encodedHeader}
+use Rattle.month_file.specs.Point.{levelBit, pointValues, pointOf, pointInRange, pointKind, decodedPoint, encodedPoint}
+use Rattle.month_file.specs.Record.{Kind, within, judged, decoded, encoded}
 use Rattle.month_file.specs.RoundTrip.{RoundTrip}
-use Rattle.month_file.proofs.Answers.{both}
-use Rattle.month_file.proofs.Entries as Entries
-use Rattle.month_file.proofs.Headers as Headers
-use Rattle.month_file.proofs.Points as Points
+use Rattle.month_file.proofs.Answers.{both, Lawful}
+use Rattle.month_file.proofs.Entries.{entry-lawful}
+use Rattle.month_file.proofs.Headers.{header-lawful}
+use Rattle.month_file.proofs.Points.{point-lawful}
 
 -- a choice that is not its second answer was made for the first
 chosen : {A : Type 0} (b : Bool) (x y z : A) → (y ≡ z → ⊥) → cond b x y ≡ z → (b ≡ true) × (x ≡ z)
 chosen true x y z n e = (refl, e)
 chosen false x y z n e = absurd (n e)
 
--- the record's answer from its values, and the definitions of a decoder and an encoder
-module _ {R A : Type 0} (size : ℕ) (ws : List ℕ) (values : R → List ℕ) (of : List ℕ → R) (closed : List ℕ → Bool)
-    (inRange : R → Bool) (read : R → A) (refused : A) where
-  abbrev from : List ℕ → A
-  from vs = cond (closed vs && inRange (of vs)) (read (of vs)) refused
+-- A kind of record, where a refusal is no record, and values and record give each other back.
+module _ {R A : Type 0} (k : Kind R) (lawful : Lawful k) (read : R → A) (refused : A)
+    (differ : (x : R) → refused ≡ read x → ⊥) (same : (x y : R) → read x ≡ read y → x ≡ y)
+    (fixes : (x : R) → k .fixed (k .values x) ≡ true) (back : (x : R) → k .of (k .values x) ≡ x)
+    (forth : (bytes : List ℕ) → k .fixed (fieldsAt bytes 0 (k .widths)) ≡ true
+    → k .values (within k bytes) ≡ fieldsAt bytes 0 (k .widths)) where
+  writes : (x : R) (bytes : List ℕ) → k .inRange x ≡ true → length bytes ≡ k .size
+      → _≡_ {A = Bool × List ℕ} (encoded k x bytes) (true, storedAll bytes 0 (k .widths) (k .values x))
+  writes x bytes t l = rw (eq-eqb (length bytes) (k .size) l, t)
 
-  abbrev decoded : List ℕ → A
-  decoded bytes = cond (eqb (length bytes) size) (from (fieldsAt bytes 0 ws)) refused
+  reads : (x : R) (bytes : List ℕ) → k .inRange x ≡ true → length bytes ≡ k .size
+      → decoded k read refused (storedAll bytes 0 (k .widths) (k .values x)) ≡ read x
+  reads x bytes t l =
+      rw (
+        eq-eqb (length (storedAll bytes 0 (k .widths) (k .values x))) (k .size) (length-storedAll bytes 0 (k .widths) (k .values x) ∙ l),
+        fields-stored bytes 0 (k .widths) (k .values x) (omega (arith, lawful .filled)) (lawful .fit x t),
+        fixes x,
+        back x,
+        t,
+      )
 
-  abbrev encoded : R → List ℕ → Bool × List ℕ
-  encoded x bytes = cond (eqb (length bytes) size && inRange x) (true, storedAll bytes 0 ws (values x)) (false, bytes)
+  -- what an accepted record was made of
+  made : (x : R) (bytes : List ℕ) → decoded k read refused bytes ≡ read x
+      → (length bytes ≡ k .size) × ((k .fixed (fieldsAt bytes 0 (k .widths)) ≡ true) × ((k .inRange x ≡ true) × (within k bytes ≡ x)))
+  made x bytes d =
+      let vs = fieldsAt bytes 0 (k .widths) in
+      let l = chosen (eqb (length bytes) (k .size)) (judged k read refused vs) refused (read x) (differ x) d in
+      let f = chosen (k .fixed vs && k .inRange (k .of vs)) (read (k .of vs)) refused (read x) (differ x) (l .1) in
+      let b = both (k .fixed vs) (k .inRange (k .of vs)) (f .0) in
+      let e : k .of vs ≡ x = same (k .of vs) x (f .1) in
+      (eqb-true (length bytes) (k .size) (l .0), (b .0, (ap (k .inRange) (sym e) ∙ b .1, e)))
 
-  module _ (filled : total ws ≡ 8 * size) (differ : (x : R) → refused ≡ read x → ⊥) (same : (x y : R) → read x ≡ read y → x ≡ y)
-      (fits : (x : R) → inRange x ≡ true → Fit ws (values x)) (closes : (x : R) → closed (values x) ≡ true) (back : (x : R) → of (values x) ≡ x)
-      (forth : (bytes : List ℕ) → closed (fieldsAt bytes 0 ws) ≡ true → values (of (fieldsAt bytes 0 ws)) ≡ fieldsAt bytes 0 ws) where
-    writes : (x : R) (bytes : List ℕ) → inRange x ≡ true → length bytes ≡ size
-        → _≡_ {A = Bool × List ℕ} (encoded x bytes) (true, storedAll bytes 0 ws (values x))
-    writes x bytes t l = rw (eq-eqb (length bytes) size l, t)
+  again : (x : R) (bytes out : List ℕ) → AreBytes bytes → decoded k read refused bytes ≡ read x → length out ≡ k .size
+      → _≡_ {A = Bool × List ℕ} (encoded k x out) (true, bytes)
+  again x bytes out small d l =
+      let m = made x bytes d in
+      let vs : k .values x ≡ fieldsAt bytes 0 (k .widths) = ap (k .values) (sym (m .1 .1 .1)) ∙ forth bytes (m .1 .0) in
+      let e : storedAll out 0 (k .widths) (k .values x) ≡ bytes =
+      ap (storedAll out 0 (k .widths)) vs
+      ∙ stored-fields bytes out (k .widths) small (l ∙ sym (m .0)) (omega (arith, m .0, lawful .filled)) in
+      writes x out (m .1 .1 .0) l ∙ ap (λ (bs : List ℕ). (true, bs)) e
 
-    reads : (x : R) (bytes : List ℕ) → inRange x ≡ true → length bytes ≡ size → decoded (storedAll bytes 0 ws (values x)) ≡ read x
-    reads x bytes t l =
-        rw (
-          eq-eqb (length (storedAll bytes 0 ws (values x))) size (length-storedAll bytes 0 ws (values x) ∙ l),
-          fields-stored bytes 0 ws (values x) (omega arith) (fits x t),
-          closes x,
-          back x,
-          t,
-        )
-
-    -- what an accepted record was made of
-    made : (x : R) (bytes : List ℕ) → decoded bytes ≡ read x
-        → (length bytes ≡ size) × ((closed (fieldsAt bytes 0 ws) ≡ true) × ((inRange x ≡ true) × (of (fieldsAt bytes 0 ws) ≡ x)))
-    made x bytes d =
-        let vs = fieldsAt bytes 0 ws in
-        let l = chosen (eqb (length bytes) size) (from vs) refused (read x) (differ x) d in
-        let f = chosen (closed vs && inRange (of vs)) (read (of vs)) refused (read x) (differ x) (l .1) in
-        let b = both (closed vs) (inRange (of vs)) (f .0) in
-        let e : of vs ≡ x = same (of vs) x (f .1) in
-        (eqb-true (length bytes) size (l .0), (b .0, (ap inRange (sym e) ∙ b .1, e)))
-
-    again : (x : R) (bytes out : List ℕ) → AreBytes bytes → decoded bytes ≡ read x → length out ≡ size
-        → _≡_ {A = Bool × List ℕ} (encoded x out) (true, bytes)
-    again x bytes out small d l =
-        let m = made x bytes d in
-        let k : length bytes ≡ size = m .0 in
-        let vs : values x ≡ fieldsAt bytes 0 ws = ap values (sym (m .1 .1 .1)) ∙ forth bytes (m .1 .0) in
-        let e : storedAll out 0 ws (values x) ≡ bytes = ap (storedAll out 0 ws) vs ∙ stored-fields bytes out ws small (l ∙ sym k) (omega arith) in
-        writes x out (m .1 .1 .0) l ∙ ap (λ (bs : List ℕ). (true, bs)) e
-
-    trip : RoundTrip size inRange read decoded encoded
-    trip =
-        record {
-          decodes = λ x bytes t l. let e = writes x bytes t l in (ap (λ (p : Bool × List ℕ). p .0) e, ap (λ (p : Bool × List ℕ). decoded (p .1)) e ∙ reads x bytes t l);
-          accepts = λ x bytes d. let m = made x bytes d in (m .1 .1 .0, m .0);
-          encodes = again;
-        }
+  trip : RoundTrip (k .size) (k .inRange) read (decoded k read refused) (encoded k)
+  trip =
+      record {
+        decodes =
+            λ x bytes t l.
+            let e = writes x bytes t l in
+            (ap (λ (p : Bool × List ℕ). p .0) e, ap (λ (p : Bool × List ℕ). decoded k read refused (p .1)) e ∙ reads x bytes t l);
+        accepts = λ x bytes d. let m = made x bytes d in (m .1 .1 .0, m .0);
+        encodes = again;
+      }
 
 -- A field of one bit.
 
@@ -119,13 +115,11 @@ level-forth v h = go (eqb v 0) refl
 -- The three records.
 
 pub header-round-trip : RoundTrip 7 headerInRange header-answer.Read decodedHeader encodedHeader
-unfolding decodedHeader headerFrom encodedHeader fieldsAt
+unfolding decodedHeader encodedHeader fieldsAt
 header-round-trip =
-    trip 7 headerWidths headerValues headerOf (λ vs. eqb (getD vs 0 0) 0x42 && eqb (getD vs 1 0) 0x45) headerInRange header-answer.Read header-answer.Refused
-    refl
+    trip headerKind header-lawful header-answer.Read header-answer.Refused
     (λ x e. let z : _≡_ {A = ℕ} 0 1 = cc in omega arith)
     (λ x y e. cc)
-    Headers.values-fit
     (λ x. refl)
     (λ x. refl)
     (λ bytes c.
@@ -150,13 +144,11 @@ entry-back e =
     }
 
 pub entry-round-trip : RoundTrip 12 entryInRange entry-answer.Read decodedEntry encodedEntry
-unfolding decodedEntry entryFrom encodedEntry fieldsAt
+unfolding decodedEntry encodedEntry fieldsAt
 entry-round-trip =
-    trip 12 entryWidths entryValues entryOf (λ vs. eqb (getD vs 8 0) 0) entryInRange entry-answer.Read entry-answer.Refused
-    refl
+    trip entryKind entry-lawful entry-answer.Read entry-answer.Refused
     (λ x e. let z : _≡_ {A = ℕ} 0 1 = cc in omega arith)
     (λ x y e. cc)
-    (λ x t. Entries.values-fit x t (x .metered .actual .0) (x .metered .set .0) refl refl)
     (λ x. refl)
     entry-back
     (λ bytes c. rw (bit-forth (field bytes 20 1) (field-lt bytes 20 1), eqb-true (field bytes 93 3) 0 c))
@@ -176,13 +168,11 @@ point-back p =
     }
 
 pub point-round-trip : RoundTrip 21 pointInRange point-answer.Read decodedPoint encodedPoint
-unfolding decodedPoint pointFrom encodedPoint fieldsAt
+unfolding decodedPoint encodedPoint fieldsAt
 point-round-trip =
-    trip 21 pointWidths pointValues pointOf (λ vs. true) pointInRange point-answer.Read point-answer.Refused
-    refl
+    trip pointKind point-lawful point-answer.Read point-answer.Refused
     (λ x e. let z : _≡_ {A = ℕ} 0 1 = cc in omega arith)
     (λ x y e. cc)
-    (λ x t. Points.values-fit x t (levelBit (x .level)) refl)
     (λ x. refl)
     point-back
     (λ bytes c. rw (bit-forth (field bytes 0 1) (field-lt bytes 0 1), level-forth (field bytes 1 1) (field-lt bytes 1 1)))

@@ -9,13 +9,13 @@ use Rattle.quarter.specs.Call.{levelOf}
 use Rattle.month_file.specs.declared.entry.EntryAnswer.the-variants as entry
 use Rattle.month_file.specs.declared.header.HeaderAnswer.the-variants as header
 use Rattle.month_file.specs.declared.point.PointAnswer.the-variants as point
-use Rattle.month_file.specs.Entry.{entryInRange, entryFrom, decodedEntry}
-use Rattle.month_file.specs.Header.{headerInRange, headerFrom, decodedHeader}
-use Rattle.month_file.specs.Point.{place, placeInRange, pointInRange, pointFrom, decodedPoint}
+use Rattle.month_file.specs.Entry.{entryInRange, decodedEntry}
+use Rattle.month_file.specs.Header.{headerInRange, decodedHeader}
+use Rattle.month_file.specs.Point.{place, placeInRange, pointInRange, decodedPoint}
 
 -- "February 2024, two points", four entries
 pub february : decodedHeader (0x42 ∷ 0x45 ∷ 0x7e ∷ 0x82 ∷ 0x20 ∷ 0x00 ∷ 0x04 ∷ []) ≡ header.Read (record { year = 2024; month = 2; points = 2; entries = 4 })
-unfolding decodedHeader headerFrom headerInRange fieldsAt field shift number
+unfolding decodedHeader headerInRange fieldsAt field shift number
 february = refl
 
 -- "Point 1: semi-active, 380, tariffs 300, 1000, one transformer 1200, 1000."
@@ -32,7 +32,7 @@ pub point-1 : decodedPoint
       third = place 0 0;
       fourth = place 0 0;
     })
-unfolding decodedPoint pointFrom pointInRange placeInRange levelOf fieldsAt field shift number
+unfolding decodedPoint pointInRange placeInRange levelOf fieldsAt field shift number
 point-1 = refl
 
 -- "(0,0,1,1,0,2000,22050,22000)"
@@ -44,5 +44,5 @@ pub first-entry : decodedEntry (0x00 ∷ 0x00 ∷ 0x18 ∷ 0x00 ∷ 0x00 ∷ 0x0
       version = 1;
       metered = record { lamp = true; take = 0; supply = 2000; actual = voltage 22050; set = voltage 22000 };
     })
-unfolding decodedEntry entryFrom entryInRange fieldsAt field shift number
+unfolding decodedEntry entryInRange fieldsAt field shift number
 first-entry = refl

@@ -1,13 +1,13 @@
 -- Document 01, "Month file": the header and its 7 bytes. Assumes nothing.
 use Prim.Native.Nat.{ℕ}
-use mathlib.Core.Bool.{Bool, true, false, cond, _&&_}
+use mathlib.Core.Bool.{Bool, true, false, _&&_}
 use mathlib.Core.List.{List, [], _∷_}
 use lib.Dec.{leb, eqb}
-use lib.ListN.{length, getD}
-use Rattle.bits.specs.Fields.{fieldsAt, storedAll}
+use lib.ListN.{getD}
 use Rattle.month_file.specs.declared.header.Header.{Header}
 use Rattle.month_file.specs.declared.header.HeaderAnswer.{HeaderAnswer}
 use Rattle.month_file.specs.declared.header.HeaderAnswer.the-variants.{Read, Refused}
+use Rattle.month_file.specs.Record.{Kind, within, decoded, encoded}
 
 -- "the two bytes ..; year 12 bits ..; month 4 ..; points 4 ..; entries 20"
 abbrev pub headerWidths : List ℕ
@@ -32,23 +32,27 @@ headerInRange h =
     && leb (h .points) 8
     && leb (h .entries) 65535
 
--- the header that fields with these values make, where the opening is "42 45 hex" and each of the others is in its range
-unfoldable pub headerFrom : List ℕ → HeaderAnswer
-headerFrom vs =
-    cond (eqb (getD vs 0 0) 0x42 && eqb (getD vs 1 0) 0x45 && headerInRange (headerOf vs)) (Read (headerOf vs)) Refused
+-- a header takes 7 bytes, and opens with "42 45 hex"
+abbrev pub headerKind : Kind Header
+headerKind =
+    record {
+      size = 7;
+      widths = headerWidths;
+      values = headerValues;
+      of = headerOf;
+      fixed = λ vs. eqb (getD vs 0 0) 0x42 && eqb (getD vs 1 0) 0x45;
+      inRange = headerInRange;
+    }
 
 -- "A header field wrong" is refused, and any other length than 7 bytes
 unfoldable pub decodedHeader : List ℕ → HeaderAnswer
-decodedHeader bytes = cond (eqb (length bytes) 7) (headerFrom (fieldsAt bytes 0 headerWidths)) Refused
+decodedHeader bytes = decoded headerKind Read Refused bytes
 
--- whether the header is written, and the slice afterwards, which stays as it is where not
 unfoldable pub encodedHeader : Header → List ℕ → Bool × List ℕ
-encodedHeader h bytes =
-    cond (eqb (length bytes) 7 && headerInRange h) (true, storedAll bytes 0 headerWidths (headerValues h)) (false, bytes)
+encodedHeader h bytes = encoded headerKind h bytes
 
--- the header in these bytes, whatever its fields hold
 unfoldable pub headerIn : List ℕ → Header
-headerIn bytes = headerOf (fieldsAt bytes 0 headerWidths)
+headerIn bytes = within headerKind bytes
 
 -- whether these bytes are refused
 abbrev pub isRefused : HeaderAnswer → Bool

@@ -4,4 +4,5 @@ pub mod Examples
 pub mod Header
 pub mod Layout
 pub mod Point
+pub mod Record
 pub mod RoundTrip

@@ -3,9 +3,8 @@ use Prim.Native.Nat.{ℕ, _*_}
 use mathlib.Core.Bool.{Bool, true, false, cond, not, _&&_, _||_}
 use mathlib.Core.List.{List, [], _∷_}
 use lib.Dec.{ltb, leb, eqb}
-use lib.ListN.{length, getD, take}
+use lib.ListN.{getD, take}
 use mir.Val.{boolByte}
-use Rattle.bits.specs.Fields.{fieldsAt, storedAll}
 use Rattle.quarter.specs.declared.Level.{Level}
 use Rattle.quarter.specs.declared.Level.the-variants.{Kv220, Kv380}
 use Rattle.quarter.specs.Call.{levelOf}
@@ -14,6 +13,7 @@ use Rattle.month_file.specs.declared.point.Transformer.{Transformer}
 use Rattle.month_file.specs.declared.point.Point.{Point}
 use Rattle.month_file.specs.declared.point.PointAnswer.{PointAnswer}
 use Rattle.month_file.specs.declared.point.PointAnswer.the-variants.{Read, Refused}
+use Rattle.month_file.specs.Record.{Kind, within, decoded, encoded}
 
 -- "role 1 bit ..; level 1 ..; transformers 3 ..; payment tariff, billing tariff, penalty 17 bits each ..; then four places of uk 12
 -- bits .. and Sn 16 bits"
@@ -81,18 +81,20 @@ pointInRange p =
     && placeInRange (ltb 2 (p .transformers)) (p .third)
     && placeInRange (ltb 3 (p .transformers)) (p .fourth)
 
--- the point that fields with these values make, where it keeps the rules above
-unfoldable pub pointFrom : List ℕ → PointAnswer
-pointFrom vs = cond (pointInRange (pointOf vs)) (Read (pointOf vs)) Refused
+-- a point takes 21 bytes, and holds all their fields
+abbrev pub pointKind : Kind Point
+pointKind =
+    record { size = 21; widths = pointWidths; values = pointValues; of = pointOf; fixed = λ vs. true; inRange = pointInRange }
 
 -- "A point record breaks a rule above" is refused, and any other length than 21 bytes
 unfoldable pub decodedPoint : List ℕ → PointAnswer
-decodedPoint bytes = cond (eqb (length bytes) 21) (pointFrom (fieldsAt bytes 0 pointWidths)) Refused
+decodedPoint bytes = decoded pointKind Read Refused bytes
 
--- whether the point is written, and the slice afterwards, which stays as it is where not
 unfoldable pub encodedPoint : Point → List ℕ → Bool × List ℕ
-encodedPoint p bytes =
-    cond (eqb (length bytes) 21 && pointInRange p) (true, storedAll bytes 0 pointWidths (pointValues p)) (false, bytes)
+encodedPoint p bytes = encoded pointKind p bytes
+
+unfoldable pub pointIn : List ℕ → Point
+pointIn bytes = within pointKind bytes
 
 -- a transformer as the quarter-hour has it
 abbrev pub rated : Transformer → Reading.Transformer
@@ -105,10 +107,6 @@ counted p = take (p .transformers) (rated (p .first) ∷ rated (p .second) ∷ r
 -- what a place adds to the band
 abbrev pub product : Bool → Transformer → ℕ
 product counts t = cond counts (t .uk * t .sn) 0
-
--- the point in these bytes, whatever its fields hold
-unfoldable pub pointIn : List ℕ → Point
-pointIn bytes = pointOf (fieldsAt bytes 0 pointWidths)
 
 -- whether these bytes are refused
 abbrev pub isRefused : PointAnswer → Bool

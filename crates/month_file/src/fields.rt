@@ -1,16 +1,15 @@
 // The fields of a record, which follow each other from its first bit on without gaps.
 ghost use mathlib.Core.Path.{_≡_};
-ghost use Prim.Native.Nat.{ℕ, _^_, _<_};
-ghost use lib.ListN.{length, getD};
+ghost use lib.ListN.{length};
 ghost use Rattle.bits.specs.Fields.{fieldsAt, storedAll, Fit};
-ghost use Rattle.month_file.specs.Layout.{Layout};
+ghost use Rattle.month_file.specs.Layout.{Layout, Small};
 
 // Reads the fields of these widths.
 pub(crate) fn read_fields(bytes: &[u8], widths: &[usize], values: &mut [u64])
     requires { ⌜ Layout (now bytes) (now widths) ⌝ }
     requires { ⌜ length (now values) ≡ length (now widths) ⌝ }
     ensures { λ _. ⌜ now (values .exit) ≡ fieldsAt (now (bytes .entry)) 0 (now (widths .entry)) ⌝ }
-    ensures { λ _. ⌜ ((i : ℕ) → getD (now (values .exit)) i 0 < 2 ^ getD (now (widths .entry)) i 0) ⌝ }
+    ensures { λ _. ⌜ Small (now (widths .entry)) (now (values .exit)) ⌝ }
 {
     let mut at = 0;
     for i in 0..widths.len() {

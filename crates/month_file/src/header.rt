@@ -2,10 +2,17 @@
 use crate::fields::read_fields;
 use crate::fields::write_fields;
 ghost use mathlib.Core.Path.{_≡_};
+ghost use Rattle.month_file.specs.Layout.{Small};
+ghost use Rattle.month_file.specs.Header.{headerWidths, headerValues, headerOf};
 ghost use Rattle.month_file.specs.Header.{headerInRange, decodedHeader, encodedHeader};
 
 // The two bytes that a month file opens with.
 const OPENING: [u8; 2] = *b"BE";
+
+// The same two as values of fields.
+const FIRST: u64 = OPENING[0] as u64;
+
+const SECOND: u64 = OPENING[1] as u64;
 
 // The widths of the fields: the two opening bytes, year, month, points and entries.
 const WIDTHS: [usize; 6] = [8, 8, 12, 4, 4, 20];
@@ -46,21 +53,29 @@ pub fn decode_header(bytes: &[u8]) -> HeaderAnswer
     }
     let mut values = [0u64; 6];
     read_fields(bytes, &WIDTHS, &mut values);
-    let opens = (values[0] == OPENING[0] as u64) & (values[1] == OPENING[1] as u64);
-    let year = values[2] as u16;
-    let month = values[3] as u8;
-    let points = values[4] as u8;
-    let entries = values[5] as u32;
-    let header = Header {
-        year,
-        month,
-        points,
-        entries,
-    };
+    let opens = (values[0] == FIRST) & (values[1] == SECOND);
+    let header = header_of(values);
     if opens & header_in_range(header) {
         return HeaderAnswer::Read(header);
     }
     HeaderAnswer::Refused
+}
+
+// The header that fields with these values make.
+fn header_of(values: [u64; 6]) -> Header
+    requires { ⌜ Small headerWidths values ⌝ }
+    ensures { λ r. ⌜ r ≡ headerOf values ⌝ }
+{
+    let year = values[2] as u16;
+    let month = values[3] as u8;
+    let points = values[4] as u8;
+    let entries = values[5] as u32;
+    Header {
+        year,
+        month,
+        points,
+        entries,
+    }
 }
 
 // Writes the header into 7 bytes; or answers false, and leaves the bytes as they are, where a field
@@ -71,14 +86,21 @@ pub fn encode_header(header: Header, bytes: &mut [u8]) -> bool
     if !((bytes.len() == 7) & header_in_range(header)) {
         return false;
     }
-    let values = [
-        OPENING[0] as u64,
-        OPENING[1] as u64,
+    let values = header_values(header);
+    write_fields(bytes, &WIDTHS, &values);
+    true
+}
+
+// The values of a header's fields.
+fn header_values(header: Header) -> [u64; 6]
+    ensures { λ r. ⌜ r ≡ headerValues header ⌝ }
+{
+    [
+        FIRST,
+        SECOND,
         header.year as u64,
         header.month as u64,
         header.points as u64,
         header.entries as u64,
-    ];
-    write_fields(bytes, &WIDTHS, &values);
-    true
+    ]
 }

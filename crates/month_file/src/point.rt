@@ -5,12 +5,15 @@ use quantity::Grains;
 use quarter::Level;
 use quarter::Tariffs;
 ghost use mathlib.Core.Path.{_≡_};
-ghost use Prim.Native.Nat.{_*_, _^_, _≤_, _<_};
+ghost use Prim.Native.Nat.{_+_, _*_, _^_, _<_};
+ghost use lib.ListN.{getD};
 ghost use Rattle.quantity.specs.Quantity.{grains};
 ghost use Rattle.quarter.specs.Call.{levelOf};
 ghost use Rattle.quarter.specs.Reading.{band};
-ghost use Rattle.month_file.specs.Point.{levelBit, place, placeInRange, pointInRange};
-ghost use Rattle.month_file.specs.Point.{decodedPoint, encodedPoint, counted, product};
+ghost use Rattle.month_file.specs.Layout.{Small};
+ghost use Rattle.month_file.specs.Point.{pointWidths, levelBit, pointValues, place, pointOf};
+ghost use Rattle.month_file.specs.Point.{placeInRange, pointInRange, decodedPoint};
+ghost use Rattle.month_file.specs.Point.{encodedPoint, counted, product};
 
 // The widths of the fields: role, level, transformers, payment and billing tariff, penalty, and the
 // four places of uk and Sn.
@@ -97,6 +100,18 @@ pub fn decode_point(bytes: &[u8]) -> PointAnswer
     }
     let mut values = [0u64; 14];
     read_fields(bytes, &WIDTHS, &mut values);
+    let point = point_of(values);
+    if point_in_range(point) {
+        return PointAnswer::Read(point);
+    }
+    PointAnswer::Refused
+}
+
+// The point that fields with these values make.
+fn point_of(values: [u64; 14]) -> Point
+    requires { ⌜ Small pointWidths values ⌝ }
+    ensures { λ r. ⌜ r ≡ pointOf values ⌝ }
+{
     let transformers = values[2] as u8;
     let payment = values[3] as u32;
     let billing = values[4] as u32;
@@ -106,20 +121,16 @@ pub fn decode_point(bytes: &[u8]) -> PointAnswer
         billing,
         penalty,
     };
-    let point = Point {
+    Point {
         semi_active: values[0] == 1,
         level: level_of(values[1]),
         transformers,
         tariffs,
-        first: place_of(values[6], values[7]),
-        second: place_of(values[8], values[9]),
-        third: place_of(values[10], values[11]),
-        fourth: place_of(values[12], values[13]),
-    };
-    if point_in_range(point) {
-        return PointAnswer::Read(point);
+        first: place_of(values, 6),
+        second: place_of(values, 8),
+        third: place_of(values, 10),
+        fourth: place_of(values, 12),
     }
-    PointAnswer::Refused
 }
 
 // The level that a bit stands for.
@@ -132,16 +143,16 @@ fn level_of(bit: u64) -> Level
     Level::Kv380
 }
 
-// The transformer at a place with these fields.
-fn place_of(uk: u64, sn: u64) -> Transformer
-    requires { ⌜ uk < 2 ^ 12 ⌝ }
-    requires { ⌜ sn < 2 ^ 16 ⌝ }
-    ensures { λ r. ⌜ r ≡ place uk sn ⌝ }
+// The transformer whose uk is the value number `at`, and whose Sn is the next one.
+fn place_of(values: [u64; 14], at: usize) -> Transformer
+    requires { ⌜ at < 13 ⌝ }
+    requires { ⌜ getD values at 0 < 2 ^ 12 ⌝ }
+    requires { ⌜ getD values (at + 1) 0 < 2 ^ 16 ⌝ }
+    ensures { λ r. ⌜ r ≡ place (getD values at 0) (getD values (at + 1) 0) ⌝ }
 {
-    Transformer {
-        uk: uk as u16,
-        sn: sn as u16,
-    }
+    let uk = values[at] as u16;
+    let sn = values[at + 1] as u16;
+    Transformer { uk, sn }
 }
 
 // Writes the point into 21 bytes; or answers false, and leaves the bytes as they are, where a field
@@ -152,8 +163,17 @@ pub fn encode_point(point: Point, bytes: &mut [u8]) -> bool
     if !((bytes.len() == 21) & point_in_range(point)) {
         return false;
     }
+    let values = point_values(point);
+    write_fields(bytes, &WIDTHS, &values);
+    true
+}
+
+// The values of a point's fields.
+fn point_values(point: Point) -> [u64; 14]
+    ensures { λ r. ⌜ r ≡ pointValues point ⌝ }
+{
     let level = point.level;
-    let values = [
+    [
         point.semi_active as u64,
         level_bit(level),
         point.transformers as u64,
@@ -168,9 +188,7 @@ pub fn encode_point(point: Point, bytes: &mut [u8]) -> bool
         point.third.sn as u64,
         point.fourth.uk as u64,
         point.fourth.sn as u64,
-    ];
-    write_fields(bytes, &WIDTHS, &values);
-    true
+    ]
 }
 
 // The bit that stands for a level.

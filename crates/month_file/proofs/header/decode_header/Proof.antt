@@ -1,13 +1,17 @@
--- `month_file::header::decode_header` meets its contract: each answer is a law of `proofs/Headers.antt`. Assumes nothing.
-use native.Mathlib.Omega.{arith}
+-- `month_file::header::decode_header` meets its contract: each answer is a law of `proofs/Answers.antt`. Assumes nothing.
+use mathlib.Core.Path.{refl}
 use denote.Ref.{now}
-use Rattle.month_file.proofs.Headers.{header-other, header-accepted, header-refused}
 use borrow.Author.Needs.{needs}
+use Rattle.month_file.specs.declared.header.HeaderAnswer.the-variants.{Read, Refused}
+use Rattle.month_file.specs.Header.{headerKind, decodedHeader}
+use Rattle.month_file.proofs.Answers.{layout, other, accepted, turned-down}
+use Rattle.month_file.proofs.Headers.{header-lawful}
 use Rattle.month_file.proofs.header.decode_header.Statement.{statement}
 use Rattle.month_file.proofs.header.decode_header.Tie as tie
 
 returns : tie.Need-returns
-returns c = header-other (now (c .before .before .args .bytes)) (c .if1 .taken)
+unfolding decodedHeader
+returns c = other headerKind Read Refused (now (c .before .before .args .bytes)) (c .if1 .taken)
 
 slice-aggregate-read-fields : tie.Need-slice-aggregate-read-fields
 slice-aggregate-read-fields c = search needs
@@ -16,7 +20,7 @@ slice-aggregate-read-fields-2 : tie.Need-slice-aggregate-read-fields-2
 slice-aggregate-read-fields-2 c = search needs
 
 read-fields-requires : tie.Need-read-fields-requires
-read-fields-requires c κs = search needs
+read-fields-requires c κs = (layout header-lawful _ (c .before .before .if1 .left), refl)
 
 array-read-opens : tie.Need-array-read-opens
 array-read-opens c = search needs
@@ -24,54 +28,27 @@ array-read-opens c = search needs
 array-read-opens-2 : tie.Need-array-read-opens-2
 array-read-opens-2 c = search needs
 
-cast-opens : tie.Need-cast-opens
-cast-opens c = search needs
-
-array-read-opens-3 : tie.Need-array-read-opens-3
-array-read-opens-3 c = search needs
-
-array-read-opens-4 : tie.Need-array-read-opens-4
-array-read-opens-4 c = search needs
-
-cast-opens-2 : tie.Need-cast-opens-2
-cast-opens-2 c = search needs
-
-array-read-year : tie.Need-array-read-year
-array-read-year c = search needs
-
-cast-year : tie.Need-cast-year
-cast-year c = omega (arith, c .before .read-fields .ensures .1 2)
-
-array-read-month : tie.Need-array-read-month
-array-read-month c = search needs
-
-cast-month : tie.Need-cast-month
-cast-month c = omega (arith, c .before .read-fields .ensures .1 3)
-
-array-read-points : tie.Need-array-read-points
-array-read-points c = search needs
-
-cast-points : tie.Need-cast-points
-cast-points c = omega (arith, c .before .read-fields .ensures .1 4)
-
-array-read-entries : tie.Need-array-read-entries
-array-read-entries c = search needs
-
-cast-entries : tie.Need-cast-entries
-cast-entries c = omega (arith, c .before .read-fields .ensures .1 5)
+header-of-requires : tie.Need-header-of-requires
+header-of-requires c κs = c .before .read-fields .ensures .1
 
 header-in-range-requires : tie.Need-header-in-range-requires
 header-in-range-requires c κs = search needs
 
 returns-2 : tie.Need-returns-2
+unfolding decodedHeader
 returns-2 c =
-    let r = c .before .before .before .read-fields in
-    header-accepted (now (c .before .before .before .before .before .before .before .before .args .bytes)) (r .last .1 .1 .0) (c .before .before .before .before .before .before .if1 .left) (r .ensures .0) (c .before .header-in-range .ensures) (c .if2 .taken)
+    let s = c .before .before .before .before in
+    let t = s .before .before .before in
+    accepted headerKind Read Refused (now (t .before .before .args .bytes)) (t .if1 .left) (s .read-fields .last .1 .1 .0)
+    (s .read-fields .ensures .0) (c .before .before .header-of .ensures) (c .before .header-in-range .ensures) (c .if2 .taken)
 
 returns-3 : tie.Need-returns-3
+unfolding decodedHeader
 returns-3 c =
-    let r = c .before .before .before .read-fields in
-    header-refused (now (c .before .before .before .before .before .before .before .before .args .bytes)) (r .last .1 .1 .0) (c .before .before .before .before .before .before .if1 .left) (r .ensures .0) (c .before .header-in-range .ensures) (c .if2 .left)
+    let s = c .before .before .before .before in
+    let t = s .before .before .before in
+    turned-down headerKind Read Refused (now (t .before .before .args .bytes)) (t .if1 .left) (s .read-fields .last .1 .1 .0)
+    (s .read-fields .ensures .0) (c .before .before .header-of .ensures) (c .before .header-in-range .ensures) (c .if2 .left)
 
 pub decode-header-spec : {M : Type 1} → statement M
 decode-header-spec =
@@ -83,18 +60,7 @@ decode-header-spec =
     read-fields-requires
     array-read-opens
     array-read-opens-2
-    cast-opens
-    array-read-opens-3
-    array-read-opens-4
-    cast-opens-2
-    array-read-year
-    cast-year
-    array-read-month
-    cast-month
-    array-read-points
-    cast-points
-    array-read-entries
-    cast-entries
+    header-of-requires
     header-in-range-requires
     returns-2
     returns-3)

@@ -1,7 +1,9 @@
--- `month_file::header::encode_header` meets its contract: each answer is a law of `proofs/Headers.antt`. Assumes nothing.
+-- `month_file::header::encode_header` meets its contract: each answer is a law of `proofs/Answers.antt`. Assumes nothing.
 use denote.Ref.{now}
-use Rattle.month_file.proofs.Headers.{header-kept, header-fits, header-written}
 use borrow.Author.Needs.{needs}
+use Rattle.month_file.specs.Header.{headerKind, encodedHeader}
+use Rattle.month_file.proofs.Answers.{kept, fits, written}
+use Rattle.month_file.proofs.Headers.{header-lawful}
 use Rattle.month_file.proofs.header.encode_header.Statement.{statement}
 use Rattle.month_file.proofs.header.encode_header.Tie as tie
 
@@ -9,31 +11,11 @@ header-in-range-requires : tie.Need-header-in-range-requires
 header-in-range-requires c κs = search needs
 
 returns : tie.Need-returns
-returns c = header-kept _ (now (c .before .before .before .args .bytes)) (c .before .header-in-range .ensures) (c .if1 .taken)
+unfolding encodedHeader
+returns c = kept headerKind _ (now (c .before .before .before .args .bytes)) (c .before .header-in-range .ensures) (c .if1 .taken)
 
-array-read-t13 : tie.Need-array-read-t13
-array-read-t13 c = search needs
-
-cast-t14 : tie.Need-cast-t14
-cast-t14 c = search needs
-
-array-read-t18 : tie.Need-array-read-t18
-array-read-t18 c = search needs
-
-cast-t19 : tie.Need-cast-t19
-cast-t19 c = search needs
-
-cast-t20 : tie.Need-cast-t20
-cast-t20 c = search needs
-
-cast-t21 : tie.Need-cast-t21
-cast-t21 c = search needs
-
-cast-t22 : tie.Need-cast-t22
-cast-t22 c = search needs
-
-cast-t23 : tie.Need-cast-t23
-cast-t23 c = search needs
+header-values-requires : tie.Need-header-values-requires
+header-values-requires c κs = search needs
 
 slice-aggregate-write-fields : tie.Need-slice-aggregate-write-fields
 slice-aggregate-write-fields c = search needs
@@ -42,14 +24,23 @@ slice-aggregate-write-fields-2 : tie.Need-slice-aggregate-write-fields-2
 slice-aggregate-write-fields-2 c = search needs
 
 write-fields-requires : tie.Need-write-fields-requires
-write-fields-requires c κs = header-fits _ (now (c .before .before .before .before .before .before .before .before .before .before .args .bytes)) (c .before .before .before .before .before .before .before .before .header-in-range .ensures) (c .before .before .before .before .before .before .before .if1 .left)
+write-fields-requires c κs =
+    let v = c .before .before .before in
+    let t = v .before in
+    fits headerKind _ (now (t .before .before .before .args .bytes)) (t .before .header-in-range .ensures) (t .if1 .left) _
+    (v .header-values .ensures) header-lawful
 
 same-length : tie.Need-same-length
 same-length c = search needs
 
 returns-2 : tie.Need-returns-2
+unfolding encodedHeader
 returns-2 c =
-    header-written _ (now (c .before .before .before .before .before .before .before .before .before .before .before .before .before .args .bytes)) (c .before .before .before .before .before .before .before .before .before .before .before .header-in-range .ensures) (c .before .before .before .before .before .before .before .before .before .before .if1 .left) _ (c .before .before .write-fields .ensures)
+    let w = c .before .before in
+    let v = w .before .before .before .before in
+    let t = v .before in
+    written headerKind _ (now (t .before .before .before .args .bytes)) (t .before .header-in-range .ensures) (t .if1 .left) _
+    (v .header-values .ensures) _ (w .write-fields .ensures)
 
 pub encode-header-spec : {M : Type 1} → statement M
 encode-header-spec =
@@ -57,14 +48,7 @@ encode-header-spec =
     (tie.spec
     header-in-range-requires
     returns
-    array-read-t13
-    cast-t14
-    array-read-t18
-    cast-t19
-    cast-t20
-    cast-t21
-    cast-t22
-    cast-t23
+    header-values-requires
     slice-aggregate-write-fields
     slice-aggregate-write-fields-2
     write-fields-requires

@@ -1,5 +1,4 @@
 -- `month_file::point::band` meets its contract: a law of `proofs/Bands.antt`. Assumes nothing.
-use native.Mathlib.Omega.{arith}
 use Rattle.month_file.proofs.Bands.{band-made}
 use borrow.Author.Needs.{needs}
 use Rattle.month_file.proofs.point.band.Statement.{statement}
@@ -31,7 +30,9 @@ of-requires c κs = search needs
 
 returns : tie.Need-returns
 returns c =
-    band-made _ _ _ _ _ (c .before .before .before .before .product .ensures .0) (c .before .before .before .product2 .ensures .0) (c .before .before .product3 .ensures .0) (c .before .product4 .ensures .0) _ (c .of .ensures)
+    let s = c .before .before in
+    band-made _ _ _ _ _ (s .before .before .product .ensures .0) (s .before .product2 .ensures .0) (s .product3 .ensures .0)
+    (c .before .product4 .ensures .0) _ (c .of .ensures)
 
 pub band-spec : {M : Type 1} → statement M
 band-spec =

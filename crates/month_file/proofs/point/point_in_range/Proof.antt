@@ -1,6 +1,6 @@
 -- `month_file::point::point_in_range` meets its contract: by definition, at the answers for the four places. Assumes nothing.
-use Rattle.month_file.specs.Point.{pointInRange}
 use borrow.Author.Needs.{needs}
+use Rattle.month_file.specs.Point.{pointInRange}
 use Rattle.month_file.proofs.point.point_in_range.Statement.{statement}
 use Rattle.month_file.proofs.point.point_in_range.Tie as tie
 
@@ -18,7 +18,9 @@ place-in-range-requires-4 c κs = search needs
 
 returns : tie.Need-returns
 unfolding pointInRange
-returns c = cc
+returns c =
+    let s = c .before .before in
+    rw (s .before .place-in-range .ensures, s .place-in-range2 .ensures, c .before .place-in-range3 .ensures, c .place-in-range4 .ensures)
 
 pub point-in-range-spec : {M : Type 1} → statement M
 point-in-range-spec =
