@@ -6,7 +6,7 @@ use mathlib.Core.List.{List, [], _∷_, _++_, all}
 use native.Mathlib.Omega.{arith}
 use borrow.Author.Tests.{le-leb, eq-eqb}
 use lib.Dec.{ltb}
-use lib.ListN.{length, take, replicate, length-append}
+use lib.ListN.{length, take, replicate}
 use lib.Seq.{take-at}
 use Rattle.month_file.specs.declared.header.Header.{Header}
 use Rattle.month_file.specs.declared.point.Point.{Point}

@@ -15,13 +15,12 @@ use Rattle.month_file.specs.Header.{decodedHeader, wrongHeader}
 use Rattle.month_file.specs.Point.{noPoint}
 use Rattle.month_file.proofs.Headers.{in-range}
 use Rattle.month_file.proofs.Readable.{header-reads}
-use Rattle.book.specs.declared.Book.{Book}
 use Rattle.book.specs.declared.answers.Answer.{Answer}
 use Rattle.book.specs.declared.answers.Answer.the-variants.{Accepted, TooShort, WrongHeader, WrongLength, WrongPoint}
 use Rattle.book.specs.declared.answers.Reply.{Reply}
 use Rattle.book.specs.Library.{numberOf}
 use Rattle.book.specs.Opening.{headerBytes, header, points, firstPoints, anyWrong, wrongLength, number, void, freshBook, book}
-use Rattle.book.specs.Steps.{emptyBook}
+use Rattle.book.specs.Steps.{emptyBook, reply}
 use Rattle.book.proofs.Denials.{not-not}
 use Rattle.book.proofs.Numbers.{skip, stop}
 use Rattle.book.proofs.Reading.{padded, length-points}
@@ -113,11 +112,11 @@ module _ (file : List ℕ) where
         wrong-point t = refuses file WrongPoint (omega arith) (points-tested ∙ stop 4 0 t)
 
         -- no wrong point: the book of the header and the points
-        pub accepts : not right ≡ false → (b : Book) → b ≡ emptyBook h ps → Opens file (record { book = b; answer = Accepted })
+        pub accepts : not right ≡ false → (r : Reply) → r ≡ reply (emptyBook h ps) Accepted → Opens file r
         unfolding book
-        accepts t b f =
+        accepts t r f =
             let n : number file ≡ 0 = points-tested ∙ skip 4 0 t in
             let m : emptyBook h ps ≡ freshBook (header file) (points file) =
             ap (emptyBook h) (read .1 (not-false right t)) ∙ fresh-padded h file
             ∙ ap (λ (x : Header). freshBook x (firstPoints (x .points) file)) (sym (header-read .1)) in
-            (sym n, f ∙ m ∙ rw n)
+            (ap (λ (x : Reply). numberOf (x .answer)) f ∙ sym n, ap (λ (x : Reply). x .book) f ∙ m ∙ rw n)

@@ -2,7 +2,7 @@
 use Prim.Native.Nat.{ℕ, zero, suc, _+_, _*_, _^_, _≤_, _<_}
 use mathlib.Core.Path.{_≡_, refl, sym, ap, ap₂, _∙_}
 use mathlib.Core.Bool.{Bool, true, false, false≢true, not, _||_, or-true}
-use mathlib.Core.List.{List, [], _∷_, all}
+use mathlib.Core.List.{List, [], all}
 use native.Mathlib.Numerals.{add-one}
 use native.Mathlib.Omega.{arith}
 use borrow.Author.Tests.{eqb-true, eqb-false, ltb-false, not-false}
@@ -24,11 +24,12 @@ use Rattle.journal.specs.Journal.{bytesAt, entries, standingPlace}
 use Rattle.book.specs.declared.Book.{Book}
 use Rattle.book.specs.Machine.{State, withEntries, worthIn, totalsOf, outside, notAbove, capacityOf}
 use Rattle.book.specs.Library.{view, monthOf, wrongMonth, wrongPoint, tooLong, stopped, anyStopped, worthAt, exchanged}
-use Rattle.book.specs.Steps.{isOutside, above, worthAmong, worthStanding, exchangedHeld}
+use Rattle.book.specs.Steps.{isOutside, above, worthAmong, worthStanding, exchangedHeld, exchangedAt}
 use Rattle.book.proofs.Fitting.{count-most, points-most, inside, outside-view}
 use Rattle.book.proofs.Opened.{totals-nothing}
 use Rattle.book.proofs.Standings.{above-standing, come-in}
-use Rattle.book.proofs.Denials.{denied, granted}
+use Rattle.book.proofs.Denials.{not-not}
+use Rattle.book.proofs.Sound.{neither}
 use Rattle.book.proofs.Totals.{delivered}
 
 -- the first i entries could be delivered, and the totals are theirs
@@ -44,7 +45,8 @@ pub record Tested (b : Book) (j : List ℕ) : Type 0 where
   pub short : b .length ≤ capacityOf (length j)
   pub eight : length (b .points) ≡ 8
 
-pub tested : (b : Book) (j : List ℕ) → wrongMonth b ≡ false → wrongPoint b ≡ false → tooLong b j ≡ false → length (b .points) ≡ 8 → Tested b j
+pub tested : (b : Book) (j : List ℕ) → wrongMonth b ≡ false → wrongPoint b ≡ false → tooLong b j ≡ false → length (b .points) ≡ 8
+    → Tested b j
 unfolding wrongMonth wrongPoint tooLong
 tested b j m p l e = record { month = not-false _ m; points = not-false _ p; short = ltb-false _ _ l; eight = e }
 
@@ -70,7 +72,8 @@ stopped-further b j i (suc n) w h = go (eqb i (suc n)) refl (stopped-further b j
     go false e further = let k = eqb-false i (suc n) e in rw (further (omega arith))
 
 -- what the function answers where the entry at i is stopped
-pub turned-down : (b : Book) (j : List ℕ) (i : ℕ) (sums : List Figures) → i < b .length → stopped (view b j) (entries i j) (bytesAt i j) ≡ true
+pub turned-down : (b : Book) (j : List ℕ) (i : ℕ) (sums : List Figures) → i < b .length
+    → stopped (view b j) (entries i j) (bytesAt i j) ≡ true
     → (false ≡ not (anyStopped (view b j) (b .length) j)) × (false ≡ true → sums ≡ totalsOf (view b j))
 unfolding anyStopped
 turned-down b j i sums h w =
@@ -92,18 +95,20 @@ same-worth s l (suc i) j = refl
 -- they make the totals those of one entry more
 one-more : (b : Book) (j : List ℕ) → Tested b j → (i : ℕ) (totals : List Figures) → Summing b j totals i
     → unreadable (bytesAt i j) ≡ false → outside (view b j) (entryIn (bytesAt i j)) ≡ false
-    → (r : Figures) → r ≡ stepped b j i totals (entryIn (bytesAt i j))
-    → set totals (entryIn (bytesAt i j) .point) r ≡ totalsOf (withEntries (view b j) (entries (suc i) j))
+    → set totals (entryIn (bytesAt i j) .point) (stepped b j i totals (entryIn (bytesAt i j)))
+    ≡ totalsOf (withEntries (view b j) (entries (suc i) j))
 unfolding entries worthIn view
-one-more b j t i totals s readable within r e =
+one-more b j t i totals s readable within =
     let l = entries i j in
     let x = entryIn (bytesAt i j) in
     let state = withEntries (view b j) l in
-    let exact = e ∙ come-in b j (t .points) i (s .lawful) (t .month) totals (s .sums) (bytesAt i j) readable within in
+    let exact = come-in b j (t .points) i (s .lawful) (t .month) totals (s .sums) (bytesAt i j) readable within in
     let sums = s .sums in
     ap (set totals (x .point)) exact
-    ∙ ap (λ (ts : List Figures). set ts (x .point) (exchanged (getD ts (x .point) nothing) (worthIn (view b j) x) (worthAt (view b j) (standingPlace (x .point) (x .quarter) i j) j))) sums
-    ∙ ap (λ (o : Figures). set (totalsOf state) (x .point) (exchanged (getD (totalsOf state) (x .point) nothing) (worthIn (view b j) x) o)) (sym (same-worth (view b j) l _ j))
+    ∙ ap (λ (ts : List Figures). set ts (x .point) (exchanged (getD ts (x .point) nothing) (worthIn (view b j) x)
+    (worthAt (view b j) (standingPlace (x .point) (x .quarter) i j) j))) sums
+    ∙ ap (λ (o : Figures). set (totalsOf state) (x .point) (exchanged (getD (totalsOf state) (x .point) nothing) (worthIn (view b j) x) o))
+    (sym (same-worth (view b j) l _ j))
     ∙ delivered state i j x refl (inside b j x within .point) (points-most b j (t .month))
 
 -- The entry at i, as it was read.
@@ -122,55 +127,45 @@ module _ (b : Book) (j : List ℕ) (t : Tested b j) (i : ℕ) (a : EntryAnswer) 
         ap (outside (view b j)) (is-read .1)
         ∙ outside-view b j e (let k = t .eight in let m = count-most b (t .month) in omega arith)
 
-    -- one outside the book is stopped
-    pub stopped-6 : (o : Bool) → o ≡ isOutside (b .count) (quartersOf (b .year) (b .month)) e → o ≡ true
-        → stopped (view b j) (entries i j) (bytesAt i j) ≡ true
-    unfolding stopped
-    stopped-6 o q h = rw (outside-is ∙ sym q ∙ h, or-true)
+    -- Whether it is outside, and what its version is beside that of the entry that stands.
+    module _ (lawful : anyStopped (view b j) i j ≡ false) (standing : Standing)
+        (found : standing ≡ foundAt (standingPlace (e .point) (e .quarter) i j) j) (o u : Bool)
+        (q : o ≡ isOutside (b .count) (quartersOf (b .year) (b .month)) e) (v : u ≡ above (e .version) standing) where
+      -- 6, as the code tests it
+      tested-6 : outside (view b j) (entryIn (bytesAt i j)) ≡ o
+      tested-6 = outside-is ∙ sym q
 
-    -- one that is not stopped by 6
-    pub within-6 : (o : Bool) → o ≡ isOutside (b .count) (quartersOf (b .year) (b .month)) e → o ≡ false
-        → outside (view b j) (entryIn (bytesAt i j)) ≡ false
-    within-6 o q h = outside-is ∙ sym q ∙ h
+      -- and 9
+      tested-9 : notAbove (entries i j) (entryIn (bytesAt i j)) ≡ not u
+      tested-9 =
+          ap (notAbove (entries i j)) (is-read .1) ∙ sym (not-not _)
+          ∙ ap not (sym (v ∙ ap (above (e .version)) found ∙ above-standing (view b j) i j e lawful))
 
-    -- Its version beside that of the entry that stands.
-    module _ (lawful : anyStopped (view b j) i j ≡ false) (place : ℕ) (standing : Standing)
-        (placed-at : place ≡ standingPlace (e .point) (e .quarter) i j) (found : standing ≡ foundAt place j) where
-      above-is : above (e .version) standing ≡ not (notAbove (entries i j) (entryIn (bytesAt i j)))
-      above-is =
-          ap (above (e .version)) (found ∙ ap (λ (k : ℕ). foundAt k j) placed-at)
-          ∙ above-standing (view b j) i j e lawful
-          ∙ ap (λ (x : Entry). not (notAbove (entries i j) x)) (sym (is-read .1))
-
-      -- one that is not above it is stopped
-      pub stopped-9 : (u : Bool) → u ≡ above (e .version) standing → not u ≡ true → stopped (view b j) (entries i j) (bytesAt i j) ≡ true
+      -- one that either stops is stopped
+      pub stopped-late : (o || not u) ≡ true → stopped (view b j) (entries i j) (bytesAt i j) ≡ true
       unfolding stopped
-      stopped-9 u q h =
-          let w : notAbove (entries i j) (entryIn (bytesAt i j)) ≡ true = denied u _ (q ∙ above-is) h in
-          rw (w, or-true)
+      stopped-late h = rw (is-read .0, tested-6, tested-9) h
 
-      -- One that passes all three.
-      module _ (inside : outside (view b j) (entryIn (bytesAt i j)) ≡ false) (u : Bool) (q : u ≡ above (e .version) standing) (h : not u ≡ false) where
+      -- One that neither stops.
+      module _ (h : (o || not u) ≡ false) where
         next-lawful : anyStopped (view b j) (i + 1) j ≡ false
         unfolding anyStopped stopped
-        next-lawful =
-            let w : notAbove (entries i j) (entryIn (bytesAt i j)) ≡ false = granted u _ (q ∙ above-is) h in
-            rw (add-one, lawful, is-read .0, inside, w)
+        next-lawful = rw (add-one, lawful, is-read .0, tested-6, tested-9) h
 
         -- its figures come in, and those of the entry that stood go out
-        pub summed : (totals : List Figures) → Summing b j totals i → i < b .length → (x o r : Figures) → x ≡ worthAmong (b .points) e
-            → o ≡ worthStanding (b .points) standing → r ≡ exchangedHeld (getD totals (e .point) nothing) x o
-            → Summing b j (set totals (e .point) r) (i + 1)
-        summed totals s more x o r ex eo er =
-            let stood = eo ∙ ap (worthStanding (b .points)) (found ∙ ap (λ (k : ℕ). foundAt k j) placed-at) in
-            let new : r ≡ stepped b j i totals e = er ∙ ap₂ (exchangedHeld (getD totals (e .point) nothing)) ex stood in
-            let same = sym (is-read .1) in
+        pub summed : (totals : List Figures) → Summing b j totals i → i < b .length → (x y : Figures) (ts : List Figures)
+            → x ≡ worthAmong (b .points) e → y ≡ worthStanding (b .points) standing → ts ≡ exchangedAt totals (e .point) x y
+            → Summing b j ts (i + 1)
+        summed totals s more x y ts ex ey et =
+            let stood = ey ∙ ap (worthStanding (b .points)) found in
+            let new : ts ≡ set totals (e .point) (stepped b j i totals e) = et ∙ ap₂ (exchangedAt totals (e .point)) ex stood in
             record {
               within = omega arith;
               lawful = next-lawful;
               sums =
-                  ap (λ (y : Entry). set totals (y .point) r) same
-                  ∙ one-more b j t i totals s (is-read .0) inside r (new ∙ ap (stepped b j i totals) same)
+                  new
+                  ∙ ap (λ (z : Entry). set totals (z .point) (stepped b j i totals z)) (sym (is-read .1))
+                  ∙ one-more b j t i totals s (is-read .0) (tested-6 ∙ neither _ _ h .0)
                   ∙ ap (λ (n : ℕ). totalsOf (withEntries (view b j) (entries n j))) (sym (add-one i));
             }
 
@@ -180,7 +175,8 @@ pub all-summed : (b : Book) (j : List ℕ) (totals : List Figures) (i : ℕ) →
 unfolding view
 all-summed b j totals i s h =
     let e : i ≡ b .length = let k = s .within in omega arith in
-    (sym (ap not (ap (λ (n : ℕ). anyStopped (view b j) n j) (sym e) ∙ s .lawful)), λ t. s .sums ∙ ap (λ (n : ℕ). totalsOf (withEntries (view b j) (entries n j))) e)
+    let lawful = ap (λ (n : ℕ). anyStopped (view b j) n j) (sym e) ∙ s .lawful in
+    (sym (ap not lawful), λ t. s .sums ∙ ap (λ (n : ℕ). totalsOf (withEntries (view b j) (entries n j))) e)
 
 -- the start: none
 pub none-summed : (b : Book) (j : List ℕ) (f : Figures) → f ≡ nothing → Summing b j (replicate 8 f) 0

@@ -17,12 +17,15 @@ use Rattle.journal.specs.Journal.{bytesAt, entryAt, entries, standingPlace}
 use Rattle.journal.specs.Standing.{foundAt}
 use Rattle.journal.proofs.Entries.{length-entries}
 use Rattle.book.specs.declared.Book.{Book}
+use Rattle.book.specs.declared.answers.Answer.the-variants.{Accepted}
+use Rattle.book.specs.declared.answers.Reply.{Reply}
 use Rattle.book.specs.Machine.{State, takeBack, empty, worthIn}
-use Rattle.book.specs.Library.{view, unsound, anyStopped, worthAt, exchanged, unposted, outcome, called}
-use Rattle.book.specs.Steps.{worthAmong, worthStanding, exchangedHeld}
+use Rattle.book.specs.Library.{view, unsound, anyStopped, worthAt, exchanged, unposted, numberOf, outcome, called}
+use Rattle.book.specs.Steps.{worthAmong, worthStanding, exchangedHeld, exchangedAt, restatedHeld, reply}
 use Rattle.book.proofs.Fitting.{inside, fits, held-worth}
 use Rattle.book.proofs.Numbers.{skip, stop, sound-refused, sound-accepted}
 use Rattle.book.proofs.OneCall.{changed}
+use Rattle.book.proofs.Replies.{replied}
 use Rattle.book.proofs.Sound.{Sound, sound, none-last}
 use Rattle.book.proofs.Standings.{found-entry, worth-standing, exchange-held}
 use Rattle.book.proofs.Totals.{standing-most}
@@ -68,9 +71,8 @@ come-back {b} {j} s m last =
 -- the totals as the code leaves them, with the figures of the entry's point exchanged
 abbrev exchange : Book → List ℕ → Entry → List Figures
 exchange b j e =
-    set (b .totals) (e .point)
-    (exchangedHeld (getD (b .totals) (e .point) nothing)
-    (worthStanding (b .points) (foundAt (standingPlace (e .point) (e .quarter) (b .length - 1) j) j)) (worthAmong (b .points) e))
+    exchangedAt (b .totals) (e .point)
+    (worthStanding (b .points) (foundAt (standingPlace (e .point) (e .quarter) (b .length - 1) j) j)) (worthAmong (b .points) e)
 
 -- whether L is empty
 empties : (b : Book) (j : List ℕ) → empty (view b j .entries) ≡ eqb (b .length) 0
@@ -105,21 +107,21 @@ module _ (b : Book) (j : List ℕ) (lawful : unsound b j ≡ false) where
       is-some = found .0
 
       -- it is taken back
-      pub is-unposted : (place : ℕ) (stands : Standing) (t x o : Figures) (after : List ℕ)
-          → place ≡ standingPlace (e .point) (e .quarter) (b .length - 1) j → stands ≡ foundAt place j
+      pub is-unposted : {stands : Standing} {x o : Figures} {after : List ℕ} {r : Reply}
+          → stands ≡ foundAt (standingPlace (e .point) (e .quarter) (b .length - 1) j) j
           → x ≡ worthStanding (b .points) stands → o ≡ worthAmong (b .points) e
-          → t ≡ exchangedHeld (getD (b .totals) (e .point) nothing) x o → after ≡ paste j (12 * (b .length - 1)) (replicate 12 0) 12
-          → outcome 0 (changed b (b .length - 1) (b .closed) (set (b .totals) (e .point) t)) after ≡ called b j takeBack
+          → after ≡ paste j (12 * (b .length - 1)) (replicate 12 0) 12
+          → r ≡ reply (restatedHeld b (b .length - 1) (e .point) x o) Accepted
+          → outcome (numberOf (r .answer)) (r .book) after ≡ called b j takeBack
       unfolding view unposted
-      is-unposted place stands t x o after ep es ex eo et ea =
+      is-unposted {x = x} {o = o} es ex eo ea er =
           let s = sound b j lawful in
           let m = b .length - 1 in
           let same = found .1 in
           let some = found .0 in
-          let up : stands ≡ foundAt (standingPlace (e .point) (e .quarter) m j) j = es ∙ ap (λ (i : ℕ). foundAt i j) ep in
-          let ts : set (b .totals) (e .point) t ≡ exchange b j e =
-          ap (set (b .totals) (e .point)) (et ∙ ap₂ (exchangedHeld _) (ex ∙ ap (worthStanding (b .points)) up) eo) in
+          let ts : exchangedAt (b .totals) (e .point) x o ≡ exchange b j e =
+          ap₂ (exchangedAt (b .totals) (e .point)) (ex ∙ ap (worthStanding (b .points)) es) eo in
           let sums = ts ∙ ap (exchange b j) (sym same) ∙ ap (set (b .totals) (entryAt m j .point)) (come-back s m (omega arith)) in
           let nonempty : b .length ≡ 0 → ⊥ = λ z. omega arith in
-          (λ i. outcome 0 (changed b m (b .closed) (sums i)) (ea i))
-          ∙ sound-accepted s takeBack (skip 8 _ unclosed ∙ skip 11 0 (empties b j ∙ ne-eqb _ _ nonempty))
+          replied er ((λ i. outcome 0 (changed b m (b .closed) (sums i)) (ea i))
+          ∙ sound-accepted s takeBack (skip 8 _ unclosed ∙ skip 11 0 (empties b j ∙ ne-eqb _ _ nonempty)))

@@ -3,7 +3,7 @@ use Prim.Native.Nat.{ℕ, _+_, _-_, _<_}
 use mathlib.Core.Bool.{Bool, true, false, _||_}
 use mathlib.Core.List.{List}
 use lib.Dec.{ltb, leb}
-use lib.ListN.{getD, replicate}
+use lib.ListN.{getD, set, replicate}
 use Rattle.quantity.specs.Quantity.{capped}
 use Rattle.month_file.specs.declared.header.Header.{Header}
 use Rattle.month_file.specs.declared.point.Point.{Point}
@@ -44,6 +44,23 @@ Placed (Found e) = e .point < 8
 -- figures with some added and others taken away, as far as 64 bits hold the sums
 unfoldable pub exchangedHeld : Figures → Figures → Figures → Figures
 exchangedHeld a x o = each (λ c. capped 64 (figure a c + figure x c) - figure o c)
+
+-- the totals with the figures of one point exchanged
+abbrev pub exchangedAt : List Figures → ℕ → Figures → Figures → List Figures
+exchangedAt ts p x o = set ts p (exchangedHeld (getD ts p nothing) x o)
+
+-- the book with another length of L, and the figures of one point exchanged
+abbrev pub restatedHeld : Book → ℕ → ℕ → Figures → Figures → Book
+restatedHeld b n p x o =
+    record {
+      year = b .year;
+      month = b .month;
+      count = b .count;
+      points = b .points;
+      length = n;
+      closed = b .closed;
+      totals = exchangedAt (b .totals) p x o;
+    }
 
 -- a book of this month and these points with no entry
 unfoldable pub emptyBook : Header → List Point → Book

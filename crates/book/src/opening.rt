@@ -18,9 +18,10 @@ ghost use mathlib.Core.List.{_++_};
 ghost use Prim.Native.Nat.{_+_, _-_, _*_, _≤_};
 ghost use lib.ListN.{length, replicate};
 ghost use Rattle.month_file.specs.Point.{noPoint};
+ghost use Rattle.book.specs.declared.answers.Answer.the-variants.{Accepted};
 ghost use Rattle.book.specs.Library.{numberOf};
 ghost use Rattle.book.specs.Opening.{firstPoints, anyWrong, number, void, book};
-ghost use Rattle.book.specs.Steps.{emptyBook};
+ghost use Rattle.book.specs.Steps.{emptyBook, reply};
 
 // The points of a file, and whether each keeps the rules.
 struct PointsRead {
@@ -49,10 +50,7 @@ pub fn open(file: &[u8]) -> Reply
         return refused(Answer::WrongPoint);
     }
     let points = read.points;
-    Reply {
-        book: fresh(header, points),
-        answer: Answer::Accepted,
-    }
+    fresh(header, points)
 }
 
 // A refused opening hands back the void book.
@@ -133,13 +131,13 @@ fn void() -> Book
     }
 }
 
-// A book of this month and these points with no entry.
-fn fresh(header: Header, points: [Point; 8]) -> Book
-    ensures { λ r. ⌜ r ≡ emptyBook header points ⌝ }
+// Accepted: the book of this month and these points with no entry.
+fn fresh(header: Header, points: [Point; 8]) -> Reply
+    ensures { λ r. ⌜ r ≡ reply (emptyBook header points) Accepted ⌝ }
 {
     let nothing = Figures::none();
     let totals = [nothing; 8];
-    Book {
+    let book = Book {
         year: header.year,
         month: header.month,
         count: header.points,
@@ -147,5 +145,9 @@ fn fresh(header: Header, points: [Point; 8]) -> Book
         length: 0,
         closed: false,
         totals,
+    };
+    Reply {
+        book,
+        answer: Answer::Accepted,
     }
 }

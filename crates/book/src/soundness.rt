@@ -2,24 +2,20 @@
 use crate::Book;
 use crate::steps::exchange;
 use crate::steps::is_outside;
+use crate::steps::standing_among;
 use crate::steps::supersedes;
 use crate::steps::worth_in;
 use crate::steps::worth_standing;
 use journal::entry_at;
-use journal::found_at;
-use journal::standing_place;
 use month_file::EntryAnswer;
 use month_file::Header;
-use month_file::Point;
 use month_file::header_in_range;
 use month_file::point_in_range;
 use worth::Figures;
 ghost use mathlib.Core.Path.{_≡_};
 ghost use mathlib.Core.Bool.{true, false, not};
-ghost use mathlib.Core.List.{all};
 ghost use Prim.Native.Nat.{_≤_};
-ghost use lib.ListN.{length, take};
-ghost use Rattle.month_file.specs.Point.{pointInRange};
+ghost use lib.ListN.{length};
 ghost use Rattle.book.specs.Machine.{capacityOf, totalsOf};
 ghost use Rattle.book.specs.Library.{view, wrongMonth, wrongPoint, tooLong, anyStopped, allSame, unsound};
 
@@ -107,24 +103,17 @@ fn summed_afresh(book: Book, journal: &[u8]) -> Afresh
                 totals,
             };
         };
-        if is_outside(book, entry) {
+        let standing = standing_among(journal, i, entry);
+        if is_outside(book, entry) | !supersedes(entry, standing) {
             return Afresh {
                 lawful: false,
                 totals,
             };
         }
-        let place = standing_place(journal, i, entry.point, entry.quarter);
-        let standing = found_at(journal, place);
-        if !supersedes(entry, standing) {
-            return Afresh {
-                lawful: false,
-                totals,
-            };
-        }
-        let point = entry.point as usize;
         let incoming = worth_in(points, entry);
         let outgoing = worth_standing(points, standing);
-        totals[point] = exchange(totals[point], incoming, outgoing);
+        let exchanged = exchange(totals, entry.point, incoming, outgoing);
+        totals = exchanged;
     }
     Afresh {
         lawful: true,

@@ -1,20 +1,35 @@
 // What one entry does to a book's totals, and the tests of a delivery.
 use crate::Book;
 use journal::Standing;
+use journal::found_at;
+use journal::standing_place;
 use month_file::Entry;
 use month_file::Point;
 use month_file::quarters_of_month;
 use worth::Figures;
 ghost use mathlib.Core.Path.{_≡_};
-ghost use Prim.Native.Nat.{_<_};
+ghost use Prim.Native.Nat.{_*_, _<_, _≤_};
+ghost use lib.ListN.{length};
 ghost use Rattle.month_file.specs.Calendar.{quartersOf};
-ghost use Rattle.book.specs.Steps.{isOutside, above, worthAmong, worthStanding, Placed, exchangedHeld};
+ghost use Rattle.journal.specs.Journal.{standingPlace};
+ghost use Rattle.journal.specs.Standing.{foundAt};
+ghost use Rattle.book.specs.Steps.{isOutside, above, worthAmong, worthStanding, Placed, exchangedAt};
 
 // Whether an entry's point or quarter is outside the book.
 pub(crate) fn is_outside(book: Book, entry: Entry) -> bool
     ensures { λ r. ⌜ r ≡ isOutside (book .count) (quartersOf (book .year) (book .month)) entry ⌝ }
 {
     (book.count <= entry.point) | (quarters_of_month(book.year, book.month) <= entry.quarter)
+}
+
+// The entry that stands for an entry's point and quarter among the first ones of the journal.
+pub(crate) fn standing_among(journal: &[u8], count: usize, entry: Entry) -> Standing
+    requires { ⌜ 12 * count ≤ length (now journal) ⌝ }
+    requires { ⌜ entry .quarter < 4096 ⌝ }
+    ensures { λ r. ⌜ r ≡ foundAt (standingPlace (entry .point) (entry .quarter) count (now (journal .entry))) (now (journal .entry)) ⌝ }
+{
+    let place = standing_place(journal, count, entry.point, entry.quarter);
+    found_at(journal, place)
 }
 
 // Whether an entry's version is above that of the entry that stands, if one does.
@@ -48,9 +63,18 @@ pub(crate) fn worth_standing(points: [Point; 8], standing: Standing) -> Figures
     }
 }
 
-// Stored figures with others added, and others taken away.
-pub(crate) fn exchange(stored: Figures, incoming: Figures, outgoing: Figures) -> Figures
-    ensures { λ r. ⌜ r ≡ exchangedHeld stored incoming outgoing ⌝ }
+// The totals with figures added to those of one point, and others taken away.
+pub(crate) fn exchange(
+    mut totals: [Figures; 8],
+    point: u8,
+    incoming: Figures,
+    outgoing: Figures,
+) -> [Figures; 8]
+    requires { ⌜ point < 8 ⌝ }
+    ensures { λ r. ⌜ r ≡ exchangedAt totals point incoming outgoing ⌝ }
 {
-    stored.plus(incoming).minus(outgoing)
+    let at = point as usize;
+    let stored = totals[at];
+    totals[at] = stored.plus(incoming).minus(outgoing);
+    totals
 }

@@ -3,7 +3,7 @@ use mathlib.Core.Path.{refl, sym, _∙_}
 use native.Mathlib.Omega.{arith}
 use borrow.Author.Needs.{needs}
 use Rattle.book.proofs.Sound.{sound}
-use Rattle.book.proofs.Standings.{found-range, placed, entries-room, place-room}
+use Rattle.book.proofs.Standings.{found-range, placed, entries-room}
 use Rattle.book.proofs.TakingBack.{is-closed, is-empty, is-some, is-unposted}
 use Rattle.book.proofs.Book.take_back_sound.Statement.{statement}
 use Rattle.book.proofs.Book.take_back_sound.Tie as tie
@@ -48,8 +48,8 @@ sub-last c =
     let s = opened .before .before in
     is-some _ _ (s .pre) (opened .if1 .left) _ (last .found-at .ensures) _ (read .entry .given .1)
 
-standing-place-requires : tie.Need-standing-place-requires
-standing-place-requires c κs =
+standing-among-requires : tie.Need-standing-among-requires
+standing-among-requires c κs =
     let read = c .before .before in
     let last = read .before .before in
     let s = last .before .before .before .before in (
@@ -57,72 +57,42 @@ standing-place-requires c κs =
       found-range _ _ _ (sym (last .found-at .ensures) ∙ read .entry .given .1) .quarter,
     )
 
-found-at-requires-2 : tie.Need-found-at-requires-2
-found-at-requires-2 c κs =
-    let place = c .before in
-    let s = place .before .before .before .before .before .before .before .before .before in
-    place-room _ _ _ _ _ (omega (arith, entries-room _ _ (sound _ _ (s .pre) .short))) (place .standing-place .ensures)
-
-cast-at : tie.Need-cast-at
-cast-at c = search needs
-
 worth-standing-requires : tie.Need-worth-standing-requires
-worth-standing-requires c κs =
-    let found = c .before .before in
-    placed _ _ _ (found .found-at2 .ensures)
+worth-standing-requires c κs = placed _ _ _ (c .before .standing-among .ensures)
 
 worth-in-requires : tie.Need-worth-in-requires
 worth-in-requires c κs =
-    let read = c .before .before .before .before .before .before .before .before in
+    let read = c .before .before .before .before .before in
     let last = read .before .before in
     found-range _ _ _ (sym (last .found-at .ensures) ∙ read .entry .given .1) .point
-
-mul-exchange : tie.Need-mul-exchange
-mul-exchange c = search needs
-
-element-copy-out-exchange : tie.Need-element-copy-out-exchange
-element-copy-out-exchange c = worth-in-requires (c .before) tt
-
-exchange-requires : tie.Need-exchange-requires
-exchange-requires c κs = search needs
-
-mul-t31 : tie.Need-mul-t31
-mul-t31 c = search needs
-
-element-set-from-self : tie.Need-element-set-from-self
-element-set-from-self c = worth-in-requires (c .before .before .before) tt
 
 slice-aggregate-write-at : tie.Need-slice-aggregate-write-at
 slice-aggregate-write-at c = search needs
 
 write-at-requires : tie.Need-write-at-requires
 write-at-requires c κs =
-    let found = c .before .before .before .before .before .before .before .before .before .before .before .before in
-    let s = found .before .before .before .before .before .before .before in
-    (omega (arith, entries-room _ _ (sound _ _ (s .pre) .short), sub-last found), refl)
+    let known = c .before .before .before .before .before .before .before in
+    let s = known .before .before .before .before .before .before .before in
+    (omega (arith, entries-room _ _ (sound _ _ (s .pre) .short), sub-last known), refl)
 
-reply-requires-3 : tie.Need-reply-requires-3
-reply-requires-3 c κs = search needs
+restated-requires : tie.Need-restated-requires
+restated-requires c κs = worth-in-requires (c .before .before .before .before .before .before) tt
 
 same-length-2 : tie.Need-same-length-2
 same-length-2 c = search needs
 
 returns-3 : tie.Need-returns-3
 returns-3 c =
-    let q = c .before in
-    let written = q .before .before in
-    let sums = written .before .before .before in
-    let out = sums .before .before in
+    let written = c .before .before .before in
+    let out = written .before .before .before in
     let into = out .before in
-    let found = into .before .before .before in
-    let place = found .before .before in
-    let read = place .before .before .before in
+    let found = into .before .before in
+    let read = found .before .before .before in
     let last = read .before .before in
     let opened = last .before .before in
     let s = opened .before .before in
-    replied (c .reply3 .ensures) (is-unposted _ _ (s .pre) (opened .if1 .left) _ (last .found-at .ensures) _ (read .entry .given .1) _ _ _ _ _ _
-    (place .standing-place .ensures) (found .found-at2 .ensures) (into .worth-standing .ensures) (out .worth-in .ensures)
-    (sums .exchange .ensures) (written .write-at .ensures))
+    is-unposted _ _ (s .pre) (opened .if1 .left) _ (last .found-at .ensures) _ (read .entry .given .1) (found .standing-among .ensures)
+    (into .worth-standing .ensures) (out .worth-in .ensures) (written .write-at .ensures) (c .restated .ensures)
 
 pub take-back-sound-spec : {M : Type 1} → statement M
 take-back-sound-spec =
@@ -137,18 +107,11 @@ take-back-sound-spec =
     same-length
     returns-2
     sub-last
-    standing-place-requires
-    found-at-requires-2
-    cast-at
+    standing-among-requires
     worth-standing-requires
     worth-in-requires
-    mul-exchange
-    element-copy-out-exchange
-    exchange-requires
-    mul-t31
-    element-set-from-self
     slice-aggregate-write-at
     write-at-requires
-    reply-requires-3
+    restated-requires
     same-length-2
     returns-3)

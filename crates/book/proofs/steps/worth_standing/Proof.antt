@@ -1,7 +1,7 @@
 -- `book::steps::worth_standing` meets its contract. Assumes nothing.
 use Rattle.book.proofs.Found.{placed-found}
 use mathlib.Core.Path.{sym, ap, _∙_}
-use Rattle.book.specs.Steps.{worthStanding, Placed}
+use Rattle.book.specs.Steps.{worthStanding}
 use borrow.Author.Needs.{needs}
 use Rattle.book.proofs.steps.worth_standing.Statement.{statement}
 use Rattle.book.proofs.steps.worth_standing.Tie as tie
