@@ -104,7 +104,7 @@ fn summed_afresh(book: Book, journal: &[u8]) -> Afresh
             };
         };
         let standing = standing_among(journal, i, entry);
-        if is_outside(book, entry) | !supersedes(entry, standing) {
+        if is_outside(book, entry) | !supersedes(entry.version, standing) {
             return Afresh {
                 lawful: false,
                 totals,

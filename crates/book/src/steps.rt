@@ -32,13 +32,13 @@ pub(crate) fn standing_among(journal: &[u8], count: usize, entry: Entry) -> Stan
     found_at(journal, place)
 }
 
-// Whether an entry's version is above that of the entry that stands, if one does.
-pub(crate) fn supersedes(entry: Entry, standing: Standing) -> bool
-    ensures { λ r. ⌜ r ≡ above (entry .version) standing ⌝ }
+// Whether a version is above that of the entry that stands, if one does.
+pub(crate) fn supersedes(version: u8, standing: Standing) -> bool
+    ensures { λ r. ⌜ r ≡ above version standing ⌝ }
 {
     match standing {
         Standing::Nothing => true,
-        Standing::Found(earlier) => earlier.version < entry.version,
+        Standing::Found(earlier) => earlier.version < version,
     }
 }
 

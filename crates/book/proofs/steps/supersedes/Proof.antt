@@ -17,7 +17,7 @@ returns c = sym (ap (above _) (c .enum-told .given .1))
 
 returns-2 : tie.Need-returns-2
 unfolding above
-returns-2 c = sym (ap (above _) (c .before .before .before .standing .given .1))
+returns-2 c = sym (ap (above _) (c .before .before .standing .given .1))
 
 pub supersedes-spec : {M : Type 1} → statement M
 supersedes-spec = tie.close (tie.spec enum-told enum-known-standing returns returns-2)
