@@ -1,14 +1,14 @@
 -- The laws of fields, for any offset and any width: reading after writing, at the same place and at others; writing what was
--- read; both for a record of fields that follow each other; and a field of a part of the list. Assumes nothing.
+-- read; and both for a record of fields that follow each other. Assumes nothing.
 use mathlib.Core.Path.{_≡_, refl, sym, ap, ap₂, _∙_}
-use mathlib.Core.List.{List, [], _∷_, _++_}
+use mathlib.Core.List.{List, [], _∷_}
 use Prim.Native.Nat.{ℕ, suc, _+_, _-_, _*_, _/_, _%_, _^_, _≤_, _<_}
 use native.Mathlib.Nat.{mod-lt, mod-mod, mod-eq-of-lt, div-one, zero-add}
 use native.Mathlib.Omega.{arith}
 use lib.Arith.{digits-lt}
-use lib.ListN.{length, take, drop, length-append, length-drop, take-append-drop}
-use lib.Pow.{pow-pos, pow-add, shr-shr, high, low}
-use lib.Seq.{ext-getD, getD-drop, length-take-le}
+use lib.ListN.{length, drop}
+use lib.Pow.{pow-pos, pow-add, high, low}
+use lib.Seq.{ext-getD, getD-drop}
 use Rattle.bits.specs.Fields.{AreBytes, number, shift, field, replaced, stored, total, fieldsAt, storedAll, Fit}
 use Rattle.bits.proofs.Bytes.{length-bytes, bytes-small}
 use Rattle.bits.proofs.Numbers.{replaced-above, replaced-part, replaced-below, agree-above, agree-below, part-add}
@@ -223,52 +223,6 @@ stored-fields bs cs (w ∷ ws) sb l e =
     stored-rest bs (stored cs 0 w v) (0 + w) ws sb (stored-small cs 0 w v) (length-stored cs 0 w v ∙ l) (omega arith)
     (rw zero-add (field-stored cs 0 w v (omega arith) (field-lt bs 0 w)))
 
--- Parts of a list of bytes.
-
--- the number of two lists in a row has the first's digits above the second's
-pub number-append : (xs ys : List ℕ) → number (xs ++ ys) ≡ number xs * 2 ^ (8 * length ys) + number ys
-unfolding number
-number-append [] ys = omega arith
-number-append (x ∷ xs) ys =
-    let k = 8 * length ys in
-    let e : 8 * length (xs ++ ys) ≡ 8 * length xs + k = omega (arith, length-append xs ys) in
-    ap₂ (λ (n m : ℕ). x * 2 ^ n + m) e (number-append xs ys)
-    ∙ rw (pow-add 2 (8 * length xs) k) (omega arith)
-
-module _ (xs ys : List ℕ) (small : AreBytes ys) (at width : ℕ) where
-  -- a field in the first of two lists in a row
-  pub field-first : at + width ≤ 8 * length xs → field (xs ++ ys) at width ≡ field xs at width
-  unfolding field shift
-  field-first h =
-      let k = 8 * length ys in
-      let s = 8 * length xs - at - width in
-      let e : 8 * length (xs ++ ys) - at - width ≡ k + s = omega (arith, length-append xs ys) in
-      ap₂ (λ (n m : ℕ). n / 2 ^ m % 2 ^ width) (number-append xs ys) e
-      ∙ ap (λ (n : ℕ). n % 2 ^ width) (sym (shr-shr _ k s) ∙ ap (λ (n : ℕ). n / 2 ^ s) (high (number xs) k (number-lt ys small)))
-
-  -- a field in the second one
-  pub field-second : at + width ≤ 8 * length ys → field (xs ++ ys) (8 * length xs + at) width ≡ field ys at width
-  unfolding field shift
-  field-second h =
-      let k = 8 * length ys in
-      let e : 8 * length (xs ++ ys) - (8 * length xs + at) - width ≡ k - at - width = omega (arith, length-append xs ys) in
-      ap₂ (λ (n m : ℕ). n / 2 ^ m % 2 ^ width) (number-append xs ys) e
-      ∙ agree-below _ (number ys) k (k - at - width) width (omega arith)
-      (low (number xs) k (number-lt ys small) ∙ sym (mod-eq-of-lt (number-lt ys small)))
-
 -- what is left of a list of bytes are bytes
 pub drop-small : (bs : List ℕ) (i : ℕ) → AreBytes bs → AreBytes (drop i bs)
 drop-small bs i small j = rw (getD-drop i bs j 0) (small (i + j))
-
--- a field of the n bytes from byte i on is the list's field that far on
-pub field-part : (bs : List ℕ) (i n at width : ℕ) → AreBytes bs → i + n ≤ length bs → at + width ≤ 8 * n
-    → field (take n (drop i bs)) at width ≡ field bs (8 * i + at) width
-field-part bs i n at width small h k =
-    let cs = drop i bs in
-    let l : length cs ≡ length bs - i = length-drop i bs in
-    let f : length (take i bs) ≡ i = length-take-le i bs (omega arith) in
-    let m : length (take n cs) ≡ n = length-take-le n cs (omega arith) in
-    sym (field-first (take n cs) (drop n cs) (drop-small cs n (drop-small bs i small)) at width (omega arith))
-    ∙ ap (λ (xs : List ℕ). field xs at width) (take-append-drop n cs)
-    ∙ sym (field-second (take i bs) cs (drop-small bs i small) at width (omega arith))
-    ∙ ap₂ (λ (xs : List ℕ) (j : ℕ). field xs (8 * j + at) width) (take-append-drop i bs) f

@@ -10,10 +10,11 @@ use lib.Arith.{digits-lt}
 use lib.Bits.{bitAnd, bitOr, and-mask, or-shifted}
 use lib.ListN.{length, getD, set, length-set}
 use lib.Pow.{pow-pos, pow-add, shr-shr, shl-exact, mod-pow-add, high, low}
-use lib.Seq.{ext-getD, getD-set-same, getD-set-other}
-use Rattle.bits.specs.Fields.{AreBytes, number, shift, field, stored}
+use lib.Seq.{paste, paste-zero, ext-getD, getD-set-same, getD-set-other}
+use Rattle.bits.specs.Fields.{AreBytes, number, bytes, shift, field, stored}
 use Rattle.bits.specs.Place.{Covers}
 use Rattle.bits.specs.declared.Span.{Span}
+use Rattle.bits.proofs.Bytes.{paste-cons}
 use Rattle.bits.proofs.Numbers.{agree-below, number-lt}
 use Rattle.bits.proofs.Laws.{field-lt, field-add, field-stored, field-before, field-after, length-stored, stored-small, stored-field, stored-add}
 
@@ -57,6 +58,36 @@ module _ (bs : List ℕ) (i v : ℕ) (small : AreBytes bs) (h : i < length bs) (
       let m : length (set bs i v) ≡ length bs = length-set bs i v in
       ext-getD 0 (set bs i v) xs (m ∙ sym l)
       (λ j k. set-at j (omega arith) (decLt j i) (decLt i j) ∙ field-byte xs j (stored-small bs (8 * i) 8 v) (omega arith))
+
+-- a number's bytes pasted at a place are the number, stored as one field there
+pub bytes-stored : (bs : List ℕ) (first count n : ℕ) → AreBytes bs → first + count ≤ length bs
+    → paste bs first (bytes n count) count ≡ stored bs (8 * first) (8 * count) (n % 2 ^ (8 * count))
+unfolding bytes
+bytes-stored bs first zero n small h =
+    let i = 8 * first in
+    let e : field bs i 0 ≡ n % 2 ^ 0 = omega (arith, field-lt bs i 0, mod-lt n (pow-pos 0)) in
+    sym (paste-zero bs first []) ∙ sym (stored-field bs i 0 small (omega arith)) ∙ ap (stored bs i 0) e
+bytes-stored bs first (suc count) n small h =
+    let i = 8 * first in
+    let m = 8 * count in
+    let x = n / 2 ^ m % 2 ^ 8 in
+    let y = n % 2 ^ m in
+    let ys = stored bs (i + 8) m y in
+    let l : length ys ≡ length bs = length-stored bs (i + 8) m y in
+    let hx : x < 2 ^ 8 = mod-lt (n / 2 ^ m) (pow-pos 8) in
+    sym (paste-cons bs (bytes n count) first count x (omega arith))
+    ∙ ap (λ (zs : List ℕ). set zs first x)
+    (bytes-stored bs (suc first) count n small (omega arith) ∙ ap (λ (z : ℕ). stored bs z m y) (omega arith))
+    ∙ set-byte ys first x (stored-small bs (i + 8) m y) (omega arith) hx
+    ∙ stored-add bs i 8 m x y (omega arith) hx (mod-lt n (pow-pos m))
+    ∙ ap (stored bs i (8 + m)) (sym (mod-pow-add n 8 m))
+    ∙ ap (λ (z : ℕ). stored bs i z (n % 2 ^ z)) (omega arith)
+
+-- what `put_word` has written
+pub word-stored : (bs xs : List ℕ) (at n : ℕ) → AreBytes bs → at + 8 ≤ length bs → n < 2 ^ 64
+    → xs ≡ stored bs (8 * at) 64 n → xs ≡ paste bs at (bytes n 8) 8
+word-stored bs xs at n small h fits e =
+    e ∙ ap (stored bs (8 * at) 64) (sym (mod-eq-of-lt fits)) ∙ sym (bytes-stored bs at 8 n small h)
 
 -- A field within a word.
 

@@ -1,8 +1,9 @@
 -- Fields of bits in a list of bytes: what `get` reads and `put` writes, and a record of fields that follow each other without gaps;
 -- and the bytes of a number, which `put_word` writes. Bits are counted from the most significant bit of the first byte. Assumes nothing.
 use Prim.Native.Nat.{ℕ, zero, suc, _+_, _-_, _*_, _/_, _%_, _^_, _<_}
-use mathlib.Core.List.{List, [], _∷_}
+use mathlib.Core.List.{List, [], _∷_, _++_}
 use lib.ListN.{length, getD}
+use lib.Seq.{paste}
 
 -- Each element is a byte.
 abbrev pub AreBytes : List ℕ → Type 0
@@ -17,6 +18,15 @@ number (b ∷ bs) = b * 2 ^ (8 * length bs) + number bs
 unfoldable pub bytes : ℕ → ℕ → List ℕ
 bytes n zero = []
 bytes n (suc count) = n / 2 ^ (8 * count) % 2 ^ 8 ∷ bytes n count
+
+-- Numbers as eight bytes each, one after the other.
+unfoldable pub words : List ℕ → List ℕ
+words [] = []
+words (n ∷ ns) = bytes n 8 ++ words ns
+
+-- The list with these numbers in it, from index `at` on.
+unfoldable pub withWords : List ℕ → ℕ → List ℕ → List ℕ
+withWords bs at ns = paste bs at (words ns) (8 * length ns)
 
 -- How many bits of the list follow the field of `width` bits at bit `at`.
 unfoldable pub shift : List ℕ → ℕ → ℕ → ℕ

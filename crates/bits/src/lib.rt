@@ -1,13 +1,13 @@
 // Fields of bits in a slice of bytes, at any bit offset and without gaps. Bits are counted from the
 // most significant bit of the first byte. A field has at most 56 bits: at any offset the bytes that
-// it lies in then fit one `u64`. A number of 64 bits goes into whole bytes, by `put_word`.
+// it lies in then fit one `u64`. Numbers of 64 bits go into whole bytes, by `put_words`.
 //
 // The contracts cite `specs/Fields.antt`; `proofs/Laws.antt` has the laws of reading after writing.
 ghost use mathlib.Core.Path.{_≡_};
 ghost use Prim.Native.Nat.{_+_, _-_, _*_, _%_, _^_, _≤_, _<_};
 ghost use lib.ListN.{length};
 ghost use lib.Seq.{paste};
-ghost use Rattle.bits.specs.Fields.{field, stored, bytes as bytesOf};
+ghost use Rattle.bits.specs.Fields.{field, stored, bytes as bytesOf, withWords};
 ghost use Rattle.bits.specs.Place.{Covers};
 
 // The bytes that a field lies in, `count` of them from index `first` on, and how many of their bits
@@ -46,14 +46,22 @@ pub fn put(bytes: &mut [u8], at: usize, width: usize, value: u64)
     store(bytes, span.first, span.count, new);
 }
 
+// Writes numbers into the bytes from index `at` on, one after the other, eight bytes each.
+pub fn put_words(bytes: &mut [u8], at: usize, words: &[u64])
+    requires { ⌜ at + 8 * length (now words) ≤ length (now bytes) ⌝ }
+    ensures { λ _. ⌜ now (bytes .exit) ≡ withWords (now (bytes .entry)) at (now (words .entry)) ⌝ }
+{
+    for i in 0..words.len() {
+        put_word(bytes, at + 8 * i, words[i]);
+    }
+}
+
 // Writes a number into the eight bytes from index `at` on, most significant first.
-pub fn put_word(bytes: &mut [u8], at: usize, word: u64)
+fn put_word(bytes: &mut [u8], at: usize, word: u64)
     requires { ⌜ at + 8 ≤ length (now bytes) ⌝ }
     ensures { λ _. ⌜ now (bytes .exit) ≡ paste (now (bytes .entry)) at (bytesOf word 8) 8 ⌝ }
 {
-    for i in 0..8 {
-        bytes[at + i] = ((word >> (56 - 8 * i)) % 256) as u8;
-    }
+    store(bytes, at, 8, word);
 }
 
 // Where the field of `width` bits at bit `at` lies.
