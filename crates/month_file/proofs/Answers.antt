@@ -1,41 +1,18 @@
 -- What a decoder and an encoder answer, from the tests that lead to the answer: one argument for the three kinds of record.
 -- Assumes nothing.
 use Prim.Native.Nat.{ℕ, _*_, _≤_, _<_}
-use mathlib.Core.Path.{_≡_, refl, sym, ap, _∙_}
-use mathlib.Core.Bool.{Bool, true, false, false≢true, not, _&&_}
-use mathlib.Core.List.{List, [], _∷_}
+use mathlib.Core.Path.{_≡_, sym, ap, _∙_}
+use mathlib.Core.Bool.{Bool, true, false, not, _&&_}
+use mathlib.Core.List.{List}
 use native.Mathlib.Omega.{arith}
 use borrow.Author.Tests.{eq-eqb, ne-eqb, eqb-true, not-true, not-false}
 use lib.Dec.{eqb}
 use lib.ListN.{length}
 use mir.Val.{boolByte}
+use Rattle.refusals.proofs.Tests.{both}
 use Rattle.bits.specs.Fields.{total, fieldsAt, storedAll, Fit}
 use Rattle.month_file.specs.Layout.{Narrow, Layout}
 use Rattle.month_file.specs.Record.{Kind, judged, decoded, encoded}
-
--- two tests that hold together
-pub both : (a b : Bool) → (a && b) ≡ true → (a ≡ true) × (b ≡ true)
-both true true h = (refl, refl)
-both true false h = (refl, h)
-both false b h = (h, absurd (false≢true h))
-
--- a test and those that follow it, as one test and one by one
-abbrev pub joined : Bool → List Bool → Bool
-joined a [] = a
-joined a (b ∷ bs) = joined (a && b) bs
-
-abbrev pub Hold : Bool → List Bool → Type 0
-Hold a [] = a ≡ true
-Hold a (b ∷ bs) = (a ≡ true) × Hold b bs
-
--- tests that hold together hold one by one
-apart : (a b : Bool) (bs : List Bool) → Hold (a && b) bs → (a ≡ true) × Hold b bs
-apart a b [] h = both a b h
-apart a b (c ∷ bs) h = let k = both a b (h .0) in (k .0, (k .1, h .1))
-
-pub each : (a : Bool) (bs : List Bool) → joined a bs ≡ true → Hold a bs
-each a [] h = h
-each a (b ∷ bs) h = apart a b bs (each (a && b) bs h)
 
 -- a bool fits one bit
 pub bit-fits : (b : Bool) → boolByte b < 2

@@ -11,10 +11,10 @@ use lib.ListN.{take}
 use lib.Seq.{take-nil}
 use Rattle.quantity.specs.declared.Grains.{Grains}
 use Rattle.quantity.specs.Quantity.{grains}
+use Rattle.quarter.specs.declared.Transformer.{Transformer}
 use Rattle.quarter.specs.Reading.{band}
-use Rattle.month_file.specs.declared.point.Transformer.{Transformer}
 use Rattle.month_file.specs.declared.point.Point.{Point}
-use Rattle.month_file.specs.Point.{pointInRange, rated, counted, product}
+use Rattle.month_file.specs.Point.{pointInRange, counted, product}
 use Rattle.month_file.proofs.Points.{Most, in-range}
 
 -- a product of two numbers of 16 bits
@@ -31,7 +31,7 @@ in-use b t h = rw (not-false b h)
 -- what the four places add is the band of those that are counted
 places : (n : ℕ) (s t u v : Transformer)
     → product (ltb 0 n) s + product (ltb 1 n) t + product (ltb 2 n) u + product (ltb 3 n) v
-    ≡ band (take n (rated s ∷ rated t ∷ rated u ∷ rated v ∷ []))
+    ≡ band (take n (s ∷ t ∷ u ∷ v ∷ []))
 unfolding band
 places zero s t u v = refl
 places (suc zero) s t u v = omega arith

@@ -6,10 +6,11 @@ use mathlib.Core.List.{[], _∷_}
 use native.Mathlib.Omega.{arith}
 use borrow.Author.Needs.{needs}
 use borrow.Author.Tests.{leb-true}
+use Rattle.refusals.proofs.Tests.{each}
 use Rattle.bits.specs.Fields.{Fit}
 use Rattle.month_file.specs.declared.header.Header.{Header}
 use Rattle.month_file.specs.Header.{headerWidths, headerValues, headerInRange, headerKind}
-use Rattle.month_file.proofs.Answers.{each, Lawful}
+use Rattle.month_file.proofs.Answers.{Lawful}
 
 -- 01's ranges of a header's fields
 pub record InRange (h : Header) : Type 0 where

@@ -2,7 +2,6 @@ pub mod Answers
 pub mod Bands
 pub mod Entries
 pub mod Headers
-pub mod Months
 pub mod Overwriting
 pub mod Points
 pub mod Readable

@@ -7,13 +7,16 @@ use native.Mathlib.Omega.{arith}
 use borrow.Author.Needs.{needs}
 use borrow.Author.Tests.{leb-true, eqb-true}
 use lib.Dec.{leb, eqb}
+use Rattle.refusals.proofs.Tests.{both, each}
 use Rattle.bits.specs.Fields.{Fit}
 use Rattle.quarter.specs.declared.Level.{Level}
 use Rattle.quarter.specs.declared.Level.the-variants.{Kv220, Kv380}
-use Rattle.month_file.specs.declared.point.Transformer.{Transformer}
+use Rattle.quarter.specs.declared.Transformer.{Transformer}
+use Rattle.quarter.specs.Ranges.{tariffsInRange}
+use Rattle.quarter.proofs.InRange.{tariffs-most}
 use Rattle.month_file.specs.declared.point.Point.{Point}
 use Rattle.month_file.specs.Point.{pointWidths, levelBit, pointValues, placeInRange, pointInRange, pointKind}
-use Rattle.month_file.proofs.Answers.{both, each, bit-fits, Lawful}
+use Rattle.month_file.proofs.Answers.{bit-fits, Lawful}
 
 -- the largest uk and Sn of a place that is in range, counted or not
 pub record Most (t : Transformer) : Type 0 where
@@ -35,20 +38,16 @@ place-most false t h =
     record { uk = omega arith; sn = omega arith }
 
 -- at most four transformers, in either role
-count-most : (s : Bool) (n k : ℕ) → (s && leb 1 n && leb n 4 && eqb k 0 || not s && eqb n 0) ≡ true → n ≤ 4
-count-most true n k h =
-    let t : (leb 1 n && leb n 4 && eqb k 0) ≡ true = sym (or-false _) ∙ h in
-    let p = both _ (eqb k 0) t in
-    let q = both (leb 1 n) _ (p .0) in
-    leb-true _ _ (q .1)
-count-most false n k h = let e : n ≡ 0 = eqb-true _ _ h in omega arith
+count-most : (s : Bool) (n : ℕ) → (s && leb 1 n && leb n 4 || not s && eqb n 0) ≡ true → n ≤ 4
+count-most true n h =
+    let t : (leb 1 n && leb n 4) ≡ true = sym (or-false _) ∙ h in
+    leb-true _ _ (both (leb 1 n) _ t .1)
+count-most false n h = let e : n ≡ 0 = eqb-true _ _ h in omega arith
 
 -- what 01's rules give for each field
 pub record InRange (p : Point) : Type 0 where
   pub transformers : p .transformers ≤ 4
-  pub payment : p .tariffs .payment ≤ 100000
-  pub billing : p .tariffs .billing ≤ 100000
-  pub penalty : p .tariffs .penalty ≤ 100000
+  pub tariffs : tariffsInRange (p .«semi_active») (p .tariffs) ≡ true
   pub first : Most (p .first)
   pub second : Most (p .second)
   pub third : Most (p .third)
@@ -57,16 +56,14 @@ pub record InRange (p : Point) : Type 0 where
 pub in-range : (p : Point) → pointInRange p ≡ true → InRange p
 unfolding pointInRange
 in-range p h =
-    let s = each _ (_ ∷ _ ∷ _ ∷ _ ∷ _ ∷ _ ∷ _ ∷ []) h in
+    let s = each _ (_ ∷ _ ∷ _ ∷ _ ∷ _ ∷ []) h in
     record {
-      transformers = count-most (p .«semi_active») (p .transformers) (p .tariffs .penalty) (s .0);
-      payment = leb-true _ _ (s .1 .0);
-      billing = leb-true _ _ (s .1 .1 .0);
-      penalty = leb-true _ _ (s .1 .1 .1 .0);
-      first = place-most _ _ (s .1 .1 .1 .1 .0);
-      second = place-most _ _ (s .1 .1 .1 .1 .1 .0);
-      third = place-most _ _ (s .1 .1 .1 .1 .1 .1 .0);
-      fourth = place-most _ _ (s .1 .1 .1 .1 .1 .1 .1);
+      transformers = count-most (p .«semi_active») (p .transformers) (s .0);
+      tariffs = s .1 .0;
+      first = place-most _ _ (s .1 .1 .0);
+      second = place-most _ _ (s .1 .1 .1 .0);
+      third = place-most _ _ (s .1 .1 .1 .1 .0);
+      fourth = place-most _ _ (s .1 .1 .1 .1 .1);
     }
 
 -- a level fits one bit
@@ -76,7 +73,8 @@ level-fits Kv380 = omega arith
 
 values-fit : (p : Point) → pointInRange p ≡ true → Fit pointWidths (pointValues p)
 values-fit p h =
-    let r = in-range p h in (
+    let r = in-range p h in
+    let t = tariffs-most (p .«semi_active») (p .tariffs) (r .tariffs) in (
       bit-fits (p .«semi_active»),
       (
         level-fits (p .level),

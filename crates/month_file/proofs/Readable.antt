@@ -15,7 +15,7 @@ use Rattle.month_file.specs.Entry.{entryInRange, entryKind, decodedEntry
 use Rattle.month_file.specs.Header.{headerInRange, headerKind, decodedHeader, headerIn, wrongHeader, isRefused as headerRefused}
 use Rattle.month_file.specs.Point.{pointInRange, pointKind, decodedPoint, pointIn, wrongPoint, isRefused as pointRefused}
 use Rattle.month_file.specs.Record.{Kind, within, decoded}
-use Rattle.month_file.proofs.Answers.{both}
+use Rattle.refusals.proofs.Tests.{both}
 
 -- What a decoder's answer says of the bytes, where `within` is the record that their fields make.
 pub record Reads {R A : Type 0} (size : ℕ) (inRange : R → Bool) (read : R → A) (refused : A) (decoded : List ℕ → A)

@@ -12,7 +12,7 @@ use Rattle.bits.specs.Fields.{AreBytes, field, fieldsAt, storedAll}
 use Rattle.bits.proofs.Laws.{field-lt, length-storedAll, fields-stored, stored-fields}
 use Rattle.quarter.specs.declared.Level.{Level}
 use Rattle.quarter.specs.declared.Level.the-variants.{Kv220, Kv380}
-use Rattle.quarter.specs.Call.{levelOf}
+use Rattle.quarter.specs.Reading.{levelOf}
 use Rattle.month_file.specs.declared.entry.Entry.{Entry}
 use Rattle.month_file.specs.declared.entry.EntryAnswer.the-variants as entry-answer
 use Rattle.month_file.specs.declared.header.HeaderAnswer.the-variants as header-answer
@@ -23,7 +23,8 @@ use Rattle.month_file.specs.Header.{headerInRange, headerKind, decodedHe
 use Rattle.month_file.specs.Point.{levelBit, pointValues, pointOf, pointInRange, pointKind, decodedPoint, encodedPoint}
 use Rattle.month_file.specs.Record.{Kind, within, judged, decoded, encoded}
 use Rattle.month_file.specs.RoundTrip.{RoundTrip}
-use Rattle.month_file.proofs.Answers.{both, Lawful}
+use Rattle.refusals.proofs.Tests.{both}
+use Rattle.month_file.proofs.Answers.{Lawful}
 use Rattle.month_file.proofs.Entries.{entry-lawful}
 use Rattle.month_file.proofs.Headers.{header-lawful}
 use Rattle.month_file.proofs.Points.{point-lawful}

@@ -5,7 +5,8 @@ use mathlib.Core.List.{[], _∷_}
 use Rattle.bits.specs.Fields.{number, shift, field, fieldsAt}
 use Rattle.quantity.specs.Quantity.{voltage}
 use Rattle.quarter.specs.declared.Level.the-variants.{Kv380}
-use Rattle.quarter.specs.Call.{levelOf}
+use Rattle.quarter.specs.Ranges.{tariffsInRange, meteredInRange}
+use Rattle.quarter.specs.Reading.{levelOf}
 use Rattle.month_file.specs.declared.entry.EntryAnswer.the-variants as entry
 use Rattle.month_file.specs.declared.header.HeaderAnswer.the-variants as header
 use Rattle.month_file.specs.declared.point.PointAnswer.the-variants as point
@@ -32,7 +33,7 @@ pub point-1 : decodedPoint
       third = place 0 0;
       fourth = place 0 0;
     })
-unfolding decodedPoint pointInRange placeInRange levelOf fieldsAt field shift number
+unfolding decodedPoint pointInRange tariffsInRange placeInRange levelOf fieldsAt field shift number
 point-1 = refl
 
 -- "(0,0,1,1,0,2000,22050,22000)"
@@ -44,5 +45,5 @@ pub first-entry : decodedEntry (0x00 ∷ 0x00 ∷ 0x18 ∷ 0x00 ∷ 0x00 ∷ 0x0
       version = 1;
       metered = record { lamp = true; take = 0; supply = 2000; actual = voltage 22050; set = voltage 22000 };
     })
-unfolding decodedEntry entryInRange fieldsAt field shift number
+unfolding decodedEntry entryInRange meteredInRange fieldsAt field shift number
 first-entry = refl

@@ -1,4 +1,3 @@
-pub mod Calendar
 pub mod Entry
 pub mod Examples
 pub mod Header

@@ -7,9 +7,9 @@ use lib.ListN.{getD, take}
 use mir.Val.{boolByte}
 use Rattle.quarter.specs.declared.Level.{Level}
 use Rattle.quarter.specs.declared.Level.the-variants.{Kv220, Kv380}
-use Rattle.quarter.specs.Call.{levelOf}
-use Rattle.quarter.specs.Reading as Reading
-use Rattle.month_file.specs.declared.point.Transformer.{Transformer}
+use Rattle.quarter.specs.declared.Transformer.{Transformer}
+use Rattle.quarter.specs.Ranges.{tariffsInRange}
+use Rattle.quarter.specs.Reading.{levelOf}
 use Rattle.month_file.specs.declared.point.Point.{Point}
 use Rattle.month_file.specs.declared.point.PointAnswer.{PointAnswer}
 use Rattle.month_file.specs.declared.point.PointAnswer.the-variants.{Read, Refused}
@@ -20,7 +20,7 @@ use Rattle.month_file.specs.Record.{Kind, within, decoded, encoded}
 abbrev pub pointWidths : List ℕ
 pointWidths = 1 ∷ 1 ∷ 3 ∷ 17 ∷ 17 ∷ 17 ∷ 12 ∷ 16 ∷ 12 ∷ 16 ∷ 12 ∷ 16 ∷ 12 ∷ 16 ∷ []
 
--- "level 1 (0 is 220 kV, 1 is 380 kV)"; `levelOf` of the quarter-hour's C call reads it
+-- "level 1 (0 is 220 kV, 1 is 380 kV)"; `levelOf` of the quarter-hour reads it
 abbrev pub levelBit : Level → ℕ
 levelBit Kv220 = 0
 levelBit Kv380 = 1
@@ -67,15 +67,12 @@ placeInRange counts t =
     counts && leb 1 (t .uk) && leb (t .uk) 4000 && leb 1 (t .sn) && leb (t .sn) 20000
     || not counts && eqb (t .uk) 0 && eqb (t .sn) 0
 
--- "transformers 3 (active 0, semi-active 1 to 4)", tariffs "17 bits each (0 to 100,000; penalty 0 if semi-active)", and the four
--- places, of which the first ones are counted
+-- "transformers 3 (active 0, semi-active 1 to 4)", the tariffs, and the four places, of which the first ones are counted
 unfoldable pub pointInRange : Point → Bool
 pointInRange p =
-    (p .«semi_active» && leb 1 (p .transformers) && leb (p .transformers) 4 && eqb (p .tariffs .penalty) 0
+    (p .«semi_active» && leb 1 (p .transformers) && leb (p .transformers) 4
     || not (p .«semi_active») && eqb (p .transformers) 0)
-    && leb (p .tariffs .payment) 100000
-    && leb (p .tariffs .billing) 100000
-    && leb (p .tariffs .penalty) 100000
+    && tariffsInRange (p .«semi_active») (p .tariffs)
     && placeInRange (ltb 0 (p .transformers)) (p .first)
     && placeInRange (ltb 1 (p .transformers)) (p .second)
     && placeInRange (ltb 2 (p .transformers)) (p .third)
@@ -96,13 +93,9 @@ encodedPoint p bytes = encoded pointKind p bytes
 unfoldable pub pointIn : List ℕ → Point
 pointIn bytes = within pointKind bytes
 
--- a transformer as the quarter-hour has it
-abbrev pub rated : Transformer → Reading.Transformer
-rated t = record { uk = t .uk; sn = t .sn }
-
 -- the transformers that count, for the band: "the sum of uk times Sn over the transformers"
-unfoldable pub counted : Point → List Reading.Transformer
-counted p = take (p .transformers) (rated (p .first) ∷ rated (p .second) ∷ rated (p .third) ∷ rated (p .fourth) ∷ [])
+unfoldable pub counted : Point → List Transformer
+counted p = take (p .transformers) (p .first ∷ p .second ∷ p .third ∷ p .fourth ∷ [])
 
 -- what a place adds to the band
 abbrev pub product : Bool → Transformer → ℕ

@@ -1,13 +1,11 @@
-// The records of a month file, document 01, "Month file": header, point and entry, and the calendar.
+// The records of a month file, document 01, "Month file": header, point and entry.
 // Each record has a range test, a decoder and an encoder. The decoder and the encoder undo each
 // other, and both refuse a slice of any other length than the record's.
-mod calendar;
 mod entry;
 mod fields;
 mod header;
 mod point;
 
-pub use calendar::quarters_of_month;
 pub use entry::Entry;
 pub use entry::EntryAnswer;
 pub use entry::decode_entry;
@@ -20,7 +18,6 @@ pub use header::encode_header;
 pub use header::header_in_range;
 pub use point::Point;
 pub use point::PointAnswer;
-pub use point::Transformer;
 pub use point::band;
 pub use point::decode_point;
 pub use point::encode_point;

@@ -4,11 +4,13 @@ use crate::fields::write_fields;
 use quantity::Grains;
 use quarter::Level;
 use quarter::Tariffs;
+use quarter::Transformer;
+use quarter::level_of;
+use quarter::tariffs_in_range;
 ghost use mathlib.Core.Path.{_≡_};
 ghost use Prim.Native.Nat.{_+_, _*_, _^_, _<_};
 ghost use lib.ListN.{getD};
 ghost use Rattle.quantity.specs.Quantity.{grains};
-ghost use Rattle.quarter.specs.Call.{levelOf};
 ghost use Rattle.quarter.specs.Reading.{band};
 ghost use Rattle.month_file.specs.Layout.{Small};
 ghost use Rattle.month_file.specs.Point.{pointWidths, levelBit, pointValues, place, pointOf};
@@ -18,12 +20,6 @@ ghost use Rattle.month_file.specs.Point.{encodedPoint, counted, product}
 // The widths of the fields: role, level, transformers, payment and billing tariff, penalty, and the
 // four places of uk and Sn.
 const WIDTHS: [usize; 14] = [1, 1, 3, 17, 17, 17, 12, 16, 12, 16, 12, 16, 12, 16];
-
-// A transformer: the short-circuit voltage uk in 0.01 %, and the rated power Sn in 0.1 MVA.
-pub struct Transformer {
-    pub uk: u16,
-    pub sn: u16,
-}
 
 // A supply point. Of its four places for transformers the first `transformers` are counted.
 pub struct Point {
@@ -72,11 +68,8 @@ pub fn point_in_range(point: Point) -> bool
 {
     let n = point.transformers;
     let semi_active = point.semi_active;
-    let tariffs = point.tariffs;
-    (semi_active & (1 <= n) & (n <= 4) & (tariffs.penalty == 0) | !semi_active & (n == 0))
-        & (tariffs.payment <= 100_000)
-        & (tariffs.billing <= 100_000)
-        & (tariffs.penalty <= 100_000)
+    (semi_active & (1 <= n) & (n <= 4) | !semi_active & (n == 0))
+        & tariffs_in_range(semi_active, point.tariffs)
         & place_in_range(0 < n, point.first)
         & place_in_range(1 < n, point.second)
         & place_in_range(2 < n, point.third)
@@ -131,16 +124,6 @@ fn point_of(values: [u64; 14]) -> Point
         third: place_of(values, 10),
         fourth: place_of(values, 12),
     }
-}
-
-// The level that a bit stands for.
-fn level_of(bit: u64) -> Level
-    ensures { λ r. ⌜ r ≡ levelOf bit ⌝ }
-{
-    if bit == 0 {
-        return Level::Kv220;
-    }
-    Level::Kv380
 }
 
 // The transformer whose uk is the value number `at`, and whose Sn is the next one.

@@ -9,8 +9,8 @@ use libc::STDOUT_FILENO;
 use month_file::EntryAnswer;
 use month_file::HeaderAnswer;
 use month_file::PointAnswer;
-use month_file::Transformer;
 use quarter::Level;
+use quarter::Transformer;
 ghost use Prim.Native.Nat.{_+_, _^_, _≤_, _<_};
 
 const HEADER: [u8; 7] = *b"BE\x7e\x82\x20\x00\x04";
@@ -291,7 +291,7 @@ fn show_entry(bytes: &[u8]) {
 fn month(year: u16, month: u8) {
     io::print_decimal(STDOUT_FILENO, year as u64);
     number(month as u64);
-    number(month_file::quarters_of_month(year, month) as u64);
+    number(calendar::quarters_of_month(year, month) as u64);
     text(b"\n");
 }
 

@@ -18,7 +18,9 @@ use Rattle.quarter.specs.declared.Metered.{Metered}
 use Rattle.quarter.specs.declared.Tariffs.{Tariffs}
 use Rattle.quarter.specs.Reading.{absolute, shares, none, filed, activeClass, helps, semiActiveFree, semiActive, ofRole, exchanged, classified}
 use Rattle.quarter.specs.Reading.{creditOf, debitOf, amounts, valued}
-use Rattle.quarter.specs.Agreement.{total, InRange}
+use Rattle.quarter.specs.Agreement.{total}
+use Rattle.quarter.specs.Ranges.{tariffsInRange, meteredInRange}
+use Rattle.quarter.proofs.InRange.{tariffs-most, metered-most}
 
 filed-total : (k : Class) (w a : Grains) → total (filed k w a) ≡ w .0 + a .0
 unfolding total
@@ -84,28 +86,30 @@ at-the-band b l m e = go (eqb (m .take) (m .supply)) refl
     go false p = rw (le-leb (absolute m) (b .0) (omega arith))
 
 -- the largest |W|: 1,000,000 kvarh
-pub absolute-most : (m : Metered) (t : Tariffs) → InRange m t → absolute m ≤ 1600000000
+pub absolute-most : (m : Metered) → meteredInRange m ≡ true → absolute m ≤ 1600000000
 unfolding absolute
-absolute-most m t r = omega arith
+absolute-most m h = let r = metered-most m h in omega arith
 
 -- The amounts within 01's ranges.
-module _ (role : Role) (l : Level) (m : Metered) (t : Tariffs) (r : InRange m t) where
+module _ (role : Role) (l : Level) (m : Metered) (t : Tariffs) (hm : meteredInRange m ≡ true)
+    (semiActive : Bool) (ht : tariffsInRange semiActive t ≡ true) where
   -- no share is larger than |W|
   part-most : (classified role l m .paid .0 ≤ 1600000000) × (classified role l m .billed .0 ≤ 1600000000)
   part-most =
       let all = conserved role l m in
-      let most = absolute-most m t r in
+      let most = absolute-most m hm in
       unfold total in omega arith
 
   -- 1,000,000 kvarh, paid at 100,000
   pub credit-most : creditOf (classified role l m) t ≤ 160000000000000
   unfolding creditOf
-  credit-most = mul-le-mul (part-most .0) (r .payment-most)
+  credit-most = mul-le-mul (part-most .0) (tariffs-most semiActive t ht .payment)
 
   -- and billed at 100,000, with a penalty of 100,000
   pub debit-most : debitOf (classified role l m) t ≤ 320000000000000
   unfolding debitOf
   debit-most =
+      let r = tariffs-most semiActive t ht in
       let rate : t .billing + t .penalty ≤ 200000 = omega arith in
       mul-le-mul (part-most .1) rate
 

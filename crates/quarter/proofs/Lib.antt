@@ -1,9 +1,8 @@
 pub mod Agreement
 pub mod Band
-pub mod Bytes
-pub mod Call
 pub mod Conservation
 pub mod Directions
 pub mod Filing
+pub mod InRange
 pub mod Signed
 pub mod Supply

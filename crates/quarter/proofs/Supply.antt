@@ -1,6 +1,6 @@
 -- The lines of document 01 for a supply, each from the tests that lead to it.
 -- Assumes nothing.
-use Prim.Native.Nat.{ℕ, _+_, _-_, _*_, _≤_, _<_, zero-le}
+use Prim.Native.Nat.{ℕ, _+_, _-_, _*_, _^_, _≤_, _<_, zero-le}
 use mathlib.Core.Path.{_≡_, refl, sym, ap, ap₂, _∙_}
 use mathlib.Core.Bool.{Bool, true, false, cond}
 use native.Mathlib.Nat.{add-assoc, sub-zero}
@@ -118,6 +118,13 @@ nothing-filed Free = refl
 nothing-filed Billed = refl
 nothing-filed Disconnected = refl
 
+-- the two differences together are the absolute energy: neither is cut off
+pub absolute-made : (m : Metered) (take supply taken supplied w : Grains) → m .take < 2 ^ 32 → m .supply < 2 ^ 32
+    → take .0 ≡ perKvarh * m .take → supply .0 ≡ perKvarh * m .supply → taken .0 ≡ take .0 - supply .0
+    → supplied .0 ≡ supply .0 - take .0 → w .0 ≡ capped 64 (taken .0 + supplied .0) → w ≡ grains (absolute m)
+unfolding absolute
+absolute-made m take supply taken supplied w ht hs et es ea eb ew = ap grains (omega arith)
+
 -- what holds of a supply, and of no net energy, holds of both
 either : (role : Role) (l : Level) (m : Metered) (s : Shares) → m .take ≤ m .supply
     → (m .take < m .supply → s ≡ exchanged role l m) → (m .take ≡ m .supply → s ≡ no-shares) → s ≡ classified role l m
@@ -130,19 +137,16 @@ either role l m s le f z = go (eqb (m .take) (m .supply)) refl
     go false p = let apart : m .take ≡ m .supply → ⊥ = eqb-false (m .take) (m .supply) p in f (omega arith)
 
 module _ (role : Role) (l : Level) (m : Metered) (w n : Grains) (lit : Bool) (le : m .take ≤ m .supply)
-    (ew : w .0 ≡ perKvarh * (m .supply - m .take)) (en : n ≡ none) (el : lit ≡ connected role (m .lamp)) where
-  energy : w ≡ grains (absolute m)
-  unfolding absolute
-  energy = ap grains (omega arith)
-
+    (ew : w ≡ grains (absolute m)) (en : n ≡ none) (el : lit ≡ connected role (m .lamp)) where
   no-energy : m .take ≡ m .supply → w ≡ none
-  no-energy z = ap grains (omega arith)
+  unfolding absolute
+  no-energy z = ew ∙ ap grains (omega arith)
 
   all-in : (k : Class) → (m .take < m .supply → filed k (grains (absolute m)) none ≡ exchanged role l m)
       → filed k w n ≡ classified role l m
   all-in k f =
       either role l m (filed k w n) le
-      (λ less. ap₂ (filed k) energy en ∙ f less)
+      (λ less. ap₂ (filed k) ew en ∙ f less)
       (λ z. ap₂ (filed k) (no-energy z) en ∙ nothing-filed k)
 
   pub unlit : lit ≡ false → filed Disconnected w n ≡ classified role l m
@@ -161,7 +165,7 @@ module _ (role : Role) (l : Level) (m : Metered) (w n : Grains) (lit : Bool) (le
   semi-active-supply : (b : Grains) → role ≡ SemiActive b → lit ≡ true → m .take < m .supply
       → semiActive l (b .0) (w .0) (m .actual .0) (m .set .0) (helpsBySupply l (m .actual .0) (m .set .0)) ≡ exchanged role l m
   unfolding exchanged ofRole
-  semi-active-supply b r p less = rw (← el, p, r, lt-ltb (m .take) (m .supply) less, energy)
+  semi-active-supply b r p less = rw (← el, p, r, lt-ltb (m .take) (m .supply) less, ew)
 
   pub lit-semi-active : (b : Grains) → role ≡ SemiActive b → lit ≡ true → (above : Bool) → above ≡ ltb (b .0) (w .0)
       → (k : Class) → k ≡ semiActiveSupply l above (m .actual .0) (m .set .0) → (a : Grains) → a ≡ allowanceOf k b

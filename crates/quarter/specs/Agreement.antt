@@ -34,14 +34,6 @@ pub record Agrees (role : Role) (l : Level) (m : Metered) (t : Tariffs) : Type 0
 unfoldable pub total : Shares → ℕ
 total s = s .paid .0 + s .free .0 + s .billed .0 + s .allowance .0 + s .disconnected .0
 
--- 01, "Month file": take and supply "(0 to 1,000,000 kvarh)", tariffs and penalty "(0 to 100,000 ..)"
-pub record InRange (m : Metered) (t : Tariffs) : Type 0 where
-  pub take-most : m .take ≤ 1000000
-  pub supply-most : m .supply ≤ 1000000
-  pub payment-most : t .payment ≤ 100000
-  pub billing-most : t .billing ≤ 100000
-  pub penalty-most : t .penalty ≤ 100000
-
 -- so many grains are a fraction of an Mvarh, exactly: 1 Mvarh is 1,000 kvarh of 1,600 grains
 pub record Exactly (n : ℕ) (q : Rattle.quarter.specs.Source.Fraction) : Type 0 where
   pub proper : 0 < q .under

@@ -1,7 +1,6 @@
 pub mod Agreement
-pub mod Call
 pub mod Edges
+pub mod Ranges
 pub mod Reading
-pub mod Refusals
 pub mod Source
 pub mod Steps

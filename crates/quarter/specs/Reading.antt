@@ -11,6 +11,7 @@ use Rattle.quarter.specs.declared.Role.{Role}
 use Rattle.quarter.specs.declared.Role.the-variants.{Active, SemiActive}
 use Rattle.quarter.specs.declared.Level.{Level}
 use Rattle.quarter.specs.declared.Level.the-variants.{Kv220, Kv380}
+use Rattle.quarter.specs.declared.Transformer.{Transformer}
 use Rattle.quarter.specs.declared.Class.{Class}
 use Rattle.quarter.specs.declared.Class.the-variants.{Paid, Free, Billed, Disconnected}
 use Rattle.quarter.specs.declared.Metered.{Metered}
@@ -35,6 +36,10 @@ filed Paid w a = shares w none none a none
 filed Free w a = shares none w none a none
 filed Billed w a = shares none none w a none
 filed Disconnected w a = shares none none none a w
+
+-- "Month file": "level 1 (0 is 220 kV, 1 is 380 kV)"
+unfoldable pub levelOf : ℕ → Level
+levelOf number = cond (eqb number 0) Kv220 Kv380
 
 -- Active: "T = 100 (220 kV) or 200 (380 kV)"
 abbrev pub tolerance : Level → ℕ
@@ -69,11 +74,6 @@ activeClass l m =
 abbrev pub semiActiveFree : Level → ℕ
 semiActiveFree Kv220 = 200
 semiActiveFree Kv380 = 300
-
--- a transformer: uk in 0.01 % and Sn in 0.1 MVA
-pub record Transformer : Type 0 where
-  pub uk : ℕ
-  pub sn : ℕ
 
 -- "The band B, in grains, is the sum of uk times Sn over the transformers"
 unfoldable pub band : List Transformer → ℕ

@@ -14,7 +14,7 @@ use Rattle.quarter.specs.declared.Level.{Level}
 use Rattle.quarter.specs.declared.Level.the-variants.{Kv220, Kv380}
 use Rattle.quarter.specs.declared.Metered.{Metered}
 use Rattle.quarter.specs.declared.Tariffs.{Tariffs}
-use Rattle.quarter.specs.Reading.{Transformer}
+use Rattle.quarter.specs.declared.Transformer.{Transformer}
 
 -- a brace of lines, each a condition and a value: the value of the line whose condition holds, and 0 where none does
 abbrev pub brace : List (Bool × ℤ) → ℤ

@@ -11,7 +11,8 @@ use quantity::Grains;
 use quantity::Voltage;
 ghost use mathlib.Core.Path.{_≡_};
 ghost use Prim.Native.Nat.{_≤_};
-ghost use Rattle.quarter.specs.Reading.{classified, connected, filed};
+ghost use Rattle.quantity.specs.Quantity.{grains};
+ghost use Rattle.quarter.specs.Reading.{absolute, classified, connected, filed};
 ghost use Rattle.quarter.specs.Reading.{tolerance, activeFree, activeSupply};
 ghost use Rattle.quarter.specs.Reading.{semiActiveFree};
 ghost use Rattle.quarter.specs.Steps.{semiActiveSupply, allowanceOf};
@@ -45,7 +46,7 @@ fn classify_supply(role: Role, level: Level, metered: Metered) -> Shares
 {
     let actual = metered.actual;
     let set = metered.set;
-    let energy = Grains::of_kvarh(metered.supply - metered.take);
+    let energy = absolute(metered);
     let none = Grains::of(0);
     if !is_connected(role, metered.lamp) {
         return file(Class::Disconnected, energy, none);
@@ -58,6 +59,17 @@ fn classify_supply(role: Role, level: Level, metered: Metered) -> Shares
             file(class, energy.minus(allowance), allowance)
         }
     }
+}
+
+// The absolute energy |W|. One of the two differences is nothing, where `minus` stops.
+pub fn absolute(metered: Metered) -> Grains
+    ensures { λ r. ⌜ r ≡ grains (absolute metered) ⌝ }
+{
+    let take = Grains::of_kvarh(metered.take);
+    let supply = Grains::of_kvarh(metered.supply);
+    let taken = take.minus(supply);
+    let supplied = supply.minus(take);
+    taken.plus(supplied)
 }
 
 // Whether the energy counts at all: the run lamp says so of active points alone.

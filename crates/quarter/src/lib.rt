@@ -1,15 +1,19 @@
 // One quarter-hour of a supply point: which shares its net reactive energy falls into, and what they
 // are worth. The shares are those of document 01, "One quarter-hour", which reads source document
 // 004, chapters 2 to 4; `specs/Reading.antt` has 01's lines and `specs/Source.antt` those of 004.
-mod c_call;
 mod classification;
+mod levels;
+mod ranges;
 mod valuation;
 
-pub use c_call::reactive_classify;
+pub use classification::absolute;
 pub use classification::classify;
+pub use levels::level_of;
 use quantity::Amount;
 use quantity::Grains;
 use quantity::Voltage;
+pub use ranges::metered_in_range;
+pub use ranges::tariffs_in_range;
 pub use valuation::value;
 
 // The role that a point plays in keeping the voltage. A semi-active point has its band B with it,
@@ -23,6 +27,13 @@ pub enum Role {
 pub enum Level {
     Kv220,
     Kv380,
+}
+
+// A transformer of a semi-active point: the short-circuit voltage uk in 0.01 %, and the rated power
+// Sn in 0.1 MVA.
+pub struct Transformer {
+    pub uk: u16,
+    pub sn: u16,
 }
 
 // What is metered in one quarter-hour: energies in kvarh, the run lamp, and the actual and the set

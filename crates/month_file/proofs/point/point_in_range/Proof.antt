@@ -1,8 +1,12 @@
--- `month_file::point::point_in_range` meets its contract: by definition, at the answers for the four places. Assumes nothing.
+-- `month_file::point::point_in_range` meets its contract: by definition, at the answers for the tariffs and the four places.
+-- Assumes nothing.
 use borrow.Author.Needs.{needs}
 use Rattle.month_file.specs.Point.{pointInRange}
 use Rattle.month_file.proofs.point.point_in_range.Statement.{statement}
 use Rattle.month_file.proofs.point.point_in_range.Tie as tie
+
+tariffs-in-range-requires : tie.Need-tariffs-in-range-requires
+tariffs-in-range-requires c κs = search needs
 
 place-in-range-requires : tie.Need-place-in-range-requires
 place-in-range-requires c κs = search needs
@@ -20,12 +24,19 @@ returns : tie.Need-returns
 unfolding pointInRange
 returns c =
     let s = c .before .before in
-    rw (s .before .place-in-range .ensures, s .place-in-range2 .ensures, c .before .place-in-range3 .ensures, c .place-in-range4 .ensures)
+    rw (
+      s .before .before .tariffs-in-range .ensures,
+      s .before .place-in-range .ensures,
+      s .place-in-range2 .ensures,
+      c .before .place-in-range3 .ensures,
+      c .place-in-range4 .ensures,
+    )
 
 pub point-in-range-spec : {M : Type 1} → statement M
 point-in-range-spec =
     tie.close
     (tie.spec
+    tariffs-in-range-requires
     place-in-range-requires
     place-in-range-requires-2
     place-in-range-requires-3

@@ -7,11 +7,8 @@ use Rattle.quarter.proofs.Supply.{unlit, lit-active, lit-semi-active}
 use Rattle.quarter.proofs.classification.classify_supply.Statement.{statement}
 use Rattle.quarter.proofs.classification.classify_supply.Tie as tie
 
-sub-of-kvarh : tie.Need-sub-of-kvarh
-sub-of-kvarh c = search needs
-
-of-kvarh-requires : tie.Need-of-kvarh-requires
-of-kvarh-requires c κs = search needs
+absolute-requires : tie.Need-absolute-requires
+absolute-requires c κs = search needs
 
 of-requires : tie.Need-of-requires
 of-requires c κs = search needs
@@ -25,7 +22,7 @@ file-requires c κs = search needs
 returns : tie.Need-returns
 returns c =
     c .file .ensures
-    ∙ unlit _ _ _ _ _ _ (c .before .before .before .before .before .before .before .before .pre) (c .before .before .before .before .of-kvarh .ensures)
+    ∙ unlit _ _ _ _ _ _ (c .before .before .before .before .before .before .before .pre) (c .before .before .before .before .absolute .ensures)
     (c .before .before .before .of .ensures) (c .before .before .is-connected .ensures) (not-true _ (c .before .if1 .taken))
 
 enum-told : tie.Need-enum-told
@@ -58,14 +55,14 @@ file-requires-3 c κs = search needs
 returns-2 : tie.Need-returns-2
 returns-2 c =
     c .file2 .ensures
-    ∙ lit-active _ _ _ _ _ _ (c .before .before .before .before .before .before .before .before .before .before .before .pre) (c .before .before .before .before .before .before .before .of-kvarh .ensures)
+    ∙ lit-active _ _ _ _ _ _ (c .before .before .before .before .before .before .before .before .before .before .pre) (c .before .before .before .before .before .before .before .absolute .ensures)
     (c .before .before .before .before .before .before .of .ensures) (c .before .before .before .before .before .is-connected .ensures)
     (c .before .before .enum-told .given .1) (not-false _ (c .before .before .before .before .if1 .left)) _ (c .before .active .ensures)
 
 returns-3 : tie.Need-returns-3
 returns-3 c =
     c .file3 .ensures
-    ∙ lit-semi-active _ _ _ _ _ _ (c .before .before .before .before .before .before .before .before .before .before .before .before .before .before .before .pre) (c .before .before .before .before .before .before .before .before .before .before .before .of-kvarh .ensures)
+    ∙ lit-semi-active _ _ _ _ _ _ (c .before .before .before .before .before .before .before .before .before .before .before .before .before .before .pre) (c .before .before .before .before .before .before .before .before .before .before .before .absolute .ensures)
     (c .before .before .before .before .before .before .before .before .before .before .of .ensures) (c .before .before .before .before .before .before .before .before .before .is-connected .ensures)
     _ (c .before .before .before .before .before .before .role .given .1) (not-false _ (c .before .before .before .before .before .before .before .before .if1 .left)) _ (c .before .before .before .before .exceeds .ensures)
     _ (c .before .before .before .semi-active .ensures) _ (c .before .before .allowance .ensures) _ (c .before .minus .ensures)
@@ -74,8 +71,7 @@ pub classify-supply-spec : {M : Type 1} → statement M
 classify-supply-spec =
     tie.close
     (tie.spec
-    sub-of-kvarh
-    of-kvarh-requires
+    absolute-requires
     of-requires
     is-connected-requires
     file-requires

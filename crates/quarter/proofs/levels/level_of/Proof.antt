@@ -1,9 +1,8 @@
--- `quarter::c_call::level_of` meets its contract: the test on the number picks the case.
--- Assumes nothing.
+-- `quarter::levels::level_of` meets its contract: the test on the number picks the case. Assumes nothing.
 use borrow.Author.Tests.{eq-eqb, ne-eqb}
-use Rattle.quarter.specs.Call.{levelOf}
-use Rattle.quarter.proofs.c_call.level_of.Statement.{statement}
-use Rattle.quarter.proofs.c_call.level_of.Tie as tie
+use Rattle.quarter.specs.Reading.{levelOf}
+use Rattle.quarter.proofs.levels.level_of.Statement.{statement}
+use Rattle.quarter.proofs.levels.level_of.Tie as tie
 
 returns : tie.Need-returns
 unfolding levelOf
