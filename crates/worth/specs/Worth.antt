@@ -1,4 +1,4 @@
--- What a quarter-hour is worth to its point: document 01, "One quarter-hour", at the point's tariffs. Assumes nothing.
+-- What a quarter-hour is worth to its point: document 01, "One quarter-hour", at tariffs that are given. Assumes nothing.
 use Prim.Native.Nat.{ℕ}
 use mathlib.Core.Bool.{cond}
 use Rattle.quantity.specs.Quantity.{grains}
@@ -6,6 +6,7 @@ use Rattle.quarter.specs.declared.Role.{Role}
 use Rattle.quarter.specs.declared.Role.the-variants.{Active, SemiActive}
 use Rattle.quarter.specs.declared.Metered.{Metered}
 use Rattle.quarter.specs.declared.Shares.{Shares}
+use Rattle.quarter.specs.declared.Tariffs.{Tariffs}
 use Rattle.quarter.specs.declared.Amounts.{Amounts}
 use Rattle.quarter.specs.Reading.{absolute, band, classified, creditOf, debitOf, amounts, valued}
 use Rattle.month_file.specs.declared.point.Point.{Point}
@@ -35,10 +36,9 @@ abbrev pub sharesOf : Point → Metered → Shares
 sharesOf p m = classified (roleOf p) (p .level) m
 
 -- "Absolute energy is |W| in grains." "Credit = paid times payment tariff. Debit = billed times (billing tariff + penalty)."
-unfoldable pub worth : Point → Metered → Figures
-worth p m =
-    put (absolute m) (sharesOf p m) (amounts (creditOf (sharesOf p m) (p .tariffs)) (debitOf (sharesOf p m) (p .tariffs)))
+unfoldable pub worth : Point → Tariffs → Metered → Figures
+worth p t m = put (absolute m) (sharesOf p m) (amounts (creditOf (sharesOf p m) t) (debitOf (sharesOf p m) t))
 
 -- the same, as far as 64 bits hold the amounts: within 01's ranges they hold all (`held` in proofs/Held.antt)
-unfoldable pub worthHeld : Point → Metered → Figures
-worthHeld p m = put (absolute m) (sharesOf p m) (valued (sharesOf p m) (p .tariffs))
+unfoldable pub worthHeld : Point → Tariffs → Metered → Figures
+worthHeld p t m = put (absolute m) (sharesOf p m) (valued (sharesOf p m) t)

@@ -1,15 +1,15 @@
-// The figures of one quarter-hour, at the point's tariffs.
+// The figures of one quarter-hour, at tariffs that are given.
 use crate::Figures;
 use month_file::Point;
 use month_file::band;
 use quantity::Grains;
 use quarter::Metered;
 use quarter::Role;
+use quarter::Tariffs;
+use quarter::absolute;
 use quarter::classify;
 use quarter::value;
 ghost use mathlib.Core.Path.{_≡_};
-ghost use Rattle.quantity.specs.Quantity.{grains};
-ghost use Rattle.quarter.specs.Reading.{absolute};
 ghost use Rattle.worth.specs.Figures.{nothing};
 ghost use Rattle.worth.specs.Worth.{roleOf, worthHeld};
 
@@ -32,13 +32,13 @@ impl Figures {
         }
     }
 
-    // What was metered in a quarter-hour at a point.
-    pub fn of(point: Point, metered: Metered) -> Figures
-        ensures { λ r. ⌜ r ≡ worthHeld point metered ⌝ }
+    // What was metered in a quarter-hour at a point, with the tariffs in force there.
+    pub fn of(point: Point, tariffs: Tariffs, metered: Metered) -> Figures
+        ensures { λ r. ⌜ r ≡ worthHeld point tariffs metered ⌝ }
     {
         let level = point.level;
         let shares = classify(role_of(point), level, metered);
-        let amounts = value(shares, point.tariffs);
+        let amounts = value(shares, tariffs);
         let paid = shares.paid;
         let free = shares.free;
         let billed = shares.billed;
@@ -67,16 +67,4 @@ fn role_of(point: Point) -> Role
         return Role::SemiActive(band(point));
     }
     Role::Active
-}
-
-// The absolute energy: the larger of take and supply less the smaller.
-fn absolute(metered: Metered) -> Grains
-    ensures { λ r. ⌜ r ≡ grains (absolute metered) ⌝ }
-{
-    let take = Grains::of_kvarh(metered.take);
-    let supply = Grains::of_kvarh(metered.supply);
-    if take.exceeds(supply) {
-        return take.minus(supply);
-    }
-    supply.minus(take)
 }

@@ -20,7 +20,7 @@ returns : tie.Need-returns
 returns c =
     let q = c .before .before .before .before .before .before .before .before in
     let a = q .before .before .before .args in
-    put-made (a .point) (a .metered) _ _ _ _ (c .absolute .ensures) (q .before .before .role-of .ensures)
+    put-made (a .point) (a .tariffs) (a .metered) _ _ _ _ (c .absolute .ensures) (q .before .before .role-of .ensures)
     (q .before .classify .ensures) (q .value .ensures)
 
 pub of-spec : {M : Type 1} → statement M
