@@ -1,0 +1,4 @@
+pub mod Order
+pub mod Standing
+pub mod Sums
+pub mod Totals
