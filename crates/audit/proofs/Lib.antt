@@ -1,0 +1,8 @@
+pub mod Equal
+pub mod Fitting
+mod Found
+pub mod OneEntry
+pub mod Placed
+pub mod Places
+pub mod Restated
+pub mod Summing

@@ -1,0 +1,25 @@
+-- `audit::entering::worth_in` meets its contract. Assumes nothing.
+use Rattle.quarter.specs.Reading.{levelOf}
+use Rattle.month_file.specs.Point.{noPoint}
+use borrow.Author.Needs.{needs}
+use Rattle.audit.proofs.entering.worth_in.Statement.{statement}
+use Rattle.audit.proofs.entering.worth_in.Tie as tie
+
+cast-at : tie.Need-cast-at
+cast-at c = search needs
+
+mul-point : tie.Need-mul-point
+mul-point c = search needs
+
+array-copy-out-point : tie.Need-array-copy-out-point
+array-copy-out-point c = search needs
+
+of-requires : tie.Need-of-requires
+of-requires c κs = search needs
+
+returns : tie.Need-returns
+unfolding noPoint levelOf
+returns c = c .of .ensures
+
+pub worth-in-spec : {M : Type 1} → statement M
+worth-in-spec = tie.close (tie.spec cast-at mul-point array-copy-out-point of-requires returns)
