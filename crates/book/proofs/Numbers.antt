@@ -1,97 +1,79 @@
--- The number of a call from its conditions, and its conditions from the number. Assumes nothing.
+-- The number of a call from its conditions. Assumes nothing.
 use Prim.Native.Nat.{ℕ, _<_}
 use mathlib.Core.Path.{_≡_, refl, sym, _∙_}
-use mathlib.Core.Bool.{Bool, true, false, cond}
-use mathlib.Core.List.{List}
+use mathlib.Core.Bool.{Bool, true, false, cond, _&&_}
+use mathlib.Core.List.{List, _++_}
 use native.Mathlib.Omega.{arith}
-use borrow.Author.Tests.{ne-eqb}
-use Rattle.month_file.specs.Entry.{entryIn, unreadable}
-use Rattle.quarter.specs.Refusals.{first}
+use borrow.Author.Tests.{eqb-true, not-true, not-false}
+use lib.Dec.{eqb}
+use Rattle.refusals.specs.Refusals.{first}
+use Rattle.refusals.proofs.First.{skip, stop, refuse, none-holds, all-passed, past, decided}
+use Rattle.machine.specs.Machine.{Change, deliver, takeBack, close, conditions}
+use Rattle.audit.specs.declared.Afresh.{Afresh}
+use Rattle.audit.specs.Audit.{afresh, allSame}
 use Rattle.book.specs.declared.Book.{Book}
-use Rattle.book.specs.Machine.{State, Call, deliver, takeBack, close, outside, notAbove, full, empty, conditions}
-use Rattle.book.specs.Library.{view, unsound, number, outcome, accepted, called}
-use Rattle.book.proofs.Sound.{Sound, sound, not-unsound}
+use Rattle.book.specs.Library.{Lent, view, unsound, guards, number, outcome, accepted, called, totalsGiven}
+use Rattle.book.proofs.Sound.{Sound, not-unsound, judged}
 
--- One condition of a list: `first` chooses between its number and that of the conditions after it.
-module _ (n rest : ℕ) {b : Bool} where
-  -- one that does not hold is passed over
-  pub skip : b ≡ false → cond b n rest ≡ rest
-  skip h = rw h
-
-  -- the first that holds gives its number
-  pub stop : b ≡ true → cond b n rest ≡ n
-  stop h = rw h
-
--- where the number is 0, the first condition does not hold, and those after it give 0
-pub passed : (n : ℕ) (b : Bool) (rest : ℕ) → 0 < n → cond b n rest ≡ 0 → (b ≡ false) × (rest ≡ 0)
-passed n true rest p h = absurd (omega arith)
-passed n false rest p h = (refl, h)
-
--- What an accepted deliver says of the machine's state and the bytes.
-pub record Delivers (s : State) (bytes : List ℕ) : Type 0 where
-  pub readable : unreadable bytes ≡ false
-  pub inside : outside s (entryIn bytes) ≡ false
-  pub unclosed : s .closed ≡ false
-  pub above : notAbove (s .entries) (entryIn bytes) ≡ false
-  pub room : full s ≡ false
-
--- none of deliver's conditions holds where its number is 0
-pub delivers : (s : State) (bytes : List ℕ) → first (conditions s (deliver bytes)) ≡ 0 → Delivers s bytes
-delivers s bytes h =
-    let r = passed 5 (unreadable bytes) _ (omega arith) h in
-    let i = passed 6 (outside s (entryIn bytes)) _ (omega arith) (r .1) in
-    let o = passed 8 (s .closed) _ (omega arith) (i .1) in
-    let a = passed 9 (notAbove (s .entries) (entryIn bytes)) _ (omega arith) (o .1) in
-    record { readable = r .0; inside = i .0; unclosed = o .0; above = a .0; room = passed 10 (full s) 0 (omega arith) (a .1) .0 }
-
--- What an accepted take back says of the machine's state.
-pub record TakesBack (s : State) : Type 0 where
-  pub unclosed : s .closed ≡ false
-  pub some : empty (s .entries) ≡ false
-
--- none of take back's
-pub takes-back : (s : State) → first (conditions s takeBack) ≡ 0 → TakesBack s
-takes-back s h =
-    let o = passed 8 (s .closed) _ (omega arith) h in
-    record { unclosed = o .0; some = passed 11 (empty (s .entries)) 0 (omega arith) (o .1) .0 }
-
--- and close's does not
-pub closes : (s : State) → first (conditions s close) ≡ 0 → s .closed ≡ false
-closes s h = passed 8 (s .closed) 0 (omega arith) h .0
-
--- every call on an unsound book gets 7
-pub unsound-number : (b : Book) (j : List ℕ) (c : Call) → unsound b j ≡ true → number b j c ≡ 7
-unfolding number
-unsound-number b j c h = stop 7 (first (conditions (view b j) c)) h
+-- where none of the numbers before a call's own applies, the book is sound
+pub guarded : (b : Book) (l : Lent) → first (guards b l) ≡ 0 → unsound b l ≡ false
+guarded b l h = none-holds (guards b l) refl h .0
 
 -- the number of a call on a sound book is the machine's
-pub sound-number : {b : Book} {j : List ℕ} → Sound b j → (c : Call) → number b j c ≡ first (conditions (view b j) c)
+pub sound-number : {b : Book} {l : Lent} → Sound b l → (c : Change) → number b l c ≡ first (conditions (view b l) c)
 unfolding number
-sound-number {b} {j} s c = skip 7 (first (conditions (view b j) c)) (not-unsound s)
-
--- a call is accepted on a sound book alone, and by the machine too
-pub accepted-number : (b : Book) (j : List ℕ) (c : Call) → number b j c ≡ 0 → Sound b j × (first (conditions (view b j) c) ≡ 0)
-unfolding number
-accepted-number b j c h =
-    let u = passed 7 (unsound b j) (first (conditions (view b j) c)) (omega arith) h in
-    (sound b j (u .0), u .1)
+sound-number {b} {l} s c = past (guards b l) (conditions (view b l) c) (not-unsound s, tt)
 
 -- a call with number 0 is accepted
-pub called-accepted : (b : Book) (j : List ℕ) (c : Call) → number b j c ≡ 0 → called b j c ≡ accepted b j c
+pub called-accepted : (b : Book) (l : Lent) (c : Change) → number b l c ≡ 0 → accepted b l c ≡ called b l c
 unfolding called
-called-accepted b j c h = rw h
+called-accepted b l c h = rw h
 
 -- one with another number is refused
-pub called-refused : (b : Book) (j : List ℕ) (c : Call) (n : ℕ) → 0 < n → number b j c ≡ n → called b j c ≡ outcome n b j
+pub called-refused : (b : Book) (l : Lent) (c : Change) (n : ℕ) → 0 < n → number b l c ≡ n → outcome n b l ≡ called b l c
 unfolding called
-called-refused b j c n p h = rw (h, ne-eqb n 0 (λ e. omega arith))
+called-refused b l c n p h = rw (h, refuse p)
+
+-- one of the numbers before a call's own refuses every call
+pub guard-refused : (b : Book) (l : Lent) (c : Change) (n : ℕ) → 0 < n → n ≡ first (guards b l) → outcome n b l ≡ called b l c
+unfolding number
+guard-refused b l c n p h = called-refused b l c n p (decided (guards b l) (conditions (view b l) c) n p (sym h))
 
 -- Calls on a sound book, by the machine's conditions.
-module _ {b : Book} {j : List ℕ} (s : Sound b j) (c : Call) where
+module _ {b : Book} {l : Lent} (s : Sound b l) (c : Change) where
   -- one condition that is the first to hold refuses
-  pub sound-refused : (n : ℕ) → 0 < n → first (conditions (view b j) c) ≡ n → outcome n b j ≡ called b j c
-  sound-refused n p h = sym (called-refused b j c n p (sound-number s c ∙ h))
+  pub sound-refused : (n : ℕ) → 0 < n → first (conditions (view b l) c) ≡ n → outcome n b l ≡ called b l c
+  sound-refused n p h = called-refused b l c n p (sound-number s c ∙ h)
 
   -- where none holds, the call is accepted
-  pub sound-accepted : first (conditions (view b j) c) ≡ 0 → accepted b j c ≡ called b j c
-  sound-accepted h = sym (called-accepted b j c (sound-number s c ∙ h))
+  pub sound-accepted : first (conditions (view b l) c) ≡ 0 → accepted b l c ≡ called b l c
+  sound-accepted h = called-accepted b l c (sound-number s c ∙ h)
+
+-- the number answered is the number of the call
+pub called-number : (b : Book) (l : Lent) (c : Change) → called b l c .number ≡ number b l c
+unfolding called
+called-number b l c = go (eqb (number b l c) 0) refl
+  where
+    zero-number : (c : Change) → accepted b l c .number ≡ 0
+    zero-number (deliver bytes) = refl
+    zero-number takeBack = refl
+    zero-number close = refl
+
+    go : (t : Bool) → eqb (number b l c) 0 ≡ t → cond t (accepted b l c) (outcome (number b l c) b l) .number ≡ number b l c
+    go true e = zero-number c ∙ sym (eqb-true (number b l c) 0 e)
+    go false e = refl
+
+-- What the test of the sums afresh says of the numbers before a call's own.
+module _ (b : Book) (l : Lent) (r : Afresh) (equal : Bool) (e : r ≡ afresh (b .master) (b .length) (l .journal))
+    (q : equal ≡ allSame (b .totals) (r .totals)) where
+  pub judged-sound : (r .lawful && equal) ≡ true → 0 ≡ first (guards b l)
+  judged-sound h = sym (skip 7 0 (not-true (unsound b l) (sym (judged b l r equal e q) ∙ h)))
+
+  pub judged-unsound : (r .lawful && equal) ≡ false → 7 ≡ first (guards b l)
+  judged-unsound h = sym (stop 7 0 (not-false (unsound b l) (sym (judged b l r equal e q) ∙ h)))
+
+-- what totals gives of a sound book
+pub sound-given : {b : Book} {l : Lent} → Sound b l
+    → totalsGiven b l ≡ record { number = 0; figures = b .totals; entries = b .length }
+unfolding totalsGiven
+sound-given {b} {l} s = rw (all-passed (guards b l) (not-unsound s, tt))

@@ -1,29 +1,33 @@
 // The settlement book of one month, document 01, "The book as a plain machine".
 //
 // A book is a value: a call takes it, with the journal that its entries lie in, and hands it back.
-// `specs/Machine.antt` has 01's machine, `specs/Library.antt` what each call does to book and journal,
-// and `proofs/Demand.antt` the theorem over every list of calls.
-mod answers;
+// `specs/Library.antt` says what each call does to book and journal.
 mod calls;
-mod opening;
-mod soundness;
-mod steps;
+mod judgement;
 
-pub use answers::Answer;
-pub use answers::Reply;
-pub use answers::Totals;
-use month_file::Point;
-pub use opening::open;
-pub use soundness::is_sound;
+use answers::Answer;
+use audit::MasterData;
+pub use judgement::judge;
 use worth::Figures;
 
 // The book. Its fields are public, and no call trusts them: each tests them against 01's number 7.
 pub struct Book {
-    pub year: u16,
-    pub month: u8,
-    pub count: u8,
-    pub points: [Point; 8],
+    pub master: MasterData,
     pub length: usize,
     pub closed: bool,
     pub totals: [Figures; 8],
+}
+
+// A book handed back, and the answer of the call that hands it back.
+pub struct Reply {
+    pub book: Book,
+    pub answer: Answer,
+}
+
+// What totals gives: the figures of each point and how many entries the journal has, all 0 beside a
+// refusal.
+pub struct Totals {
+    pub answer: Answer,
+    pub points: [Figures; 8],
+    pub length: usize,
 }

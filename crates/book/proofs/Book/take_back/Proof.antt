@@ -1,13 +1,18 @@
 -- `book::Book::take_back` meets its contract. Assumes nothing.
-use Rattle.book.proofs.Denials.{denied, granted}
-use Rattle.book.proofs.Tested.{seven}
+use mathlib.Core.Path.{sym, ap, _∙_}
+use Rattle.answers.specs.Numbers.{numberOf}
+use Rattle.answers.proofs.Refusing.{refused-number}
+use Rattle.book.proofs.Numbers.{guarded, guard-refused}
+use Rattle.book.proofs.Replies.{replied}
 use borrow.Author.Needs.{needs}
 use Rattle.book.proofs.Book.take_back.Statement.{statement}
 use Rattle.book.proofs.Book.take_back.Tie as tie
-use Rattle.book.proofs.Replies.{replied}
 
-is-sound-requires : tie.Need-is-sound-requires
-is-sound-requires c κs = search needs
+judge-requires : tie.Need-judge-requires
+judge-requires c κs = search needs
+
+enum-told : tie.Need-enum-told
+enum-told c = search needs
 
 reply-requires : tie.Need-reply-requires
 reply-requires c κs = search needs
@@ -18,10 +23,14 @@ same-length c = search needs
 returns : tie.Need-returns
 returns c =
     let q = c .before in
-    replied (c .reply .ensures) (seven _ _ _ (denied _ _ (q .before .is-sound .ensures) (q .if1 .taken)))
+    let j = q .before .judge in
+    replied (c .reply .ensures) (guard-refused _ _ _ _ (refused-number (j .result) (q .match .keys2)) (j .ensures))
 
 take-back-sound-requires : tie.Need-take-back-sound-requires
-take-back-sound-requires c κs = granted _ _ (c .before .before .is-sound .ensures) (c .before .if1 .left)
+take-back-sound-requires c κs =
+    let told = c .before in
+    let j = told .before .before .judge in
+    guarded _ _ (sym (j .ensures) ∙ ap numberOf (told .enum-told .given .1))
 
 same-length-2 : tie.Need-same-length-2
 same-length-2 c = search needs
@@ -33,7 +42,8 @@ pub take-back-spec : {M : Type 1} → statement M
 take-back-spec =
     tie.close
     (tie.spec
-    is-sound-requires
+    judge-requires
+    enum-told
     reply-requires
     same-length
     returns

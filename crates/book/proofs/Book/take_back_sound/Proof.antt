@@ -1,30 +1,51 @@
 -- `book::Book::take_back_sound` meets its contract. Assumes nothing.
-use mathlib.Core.Path.{refl, sym, _∙_}
+use mathlib.Core.Path.{refl, sym, ap, _∙_}
 use native.Mathlib.Omega.{arith}
-use borrow.Author.Needs.{needs}
+use Rattle.answers.specs.Numbers.{numberOf}
+use Rattle.answers.proofs.Refusing.{refused-number}
+use Rattle.audit.proofs.Placed.{read-range, placed, entries-room}
+use Rattle.book.specs.Library.{lent}
+use Rattle.book.proofs.TakingBack.{Answered, is-refused, is-some, lies, is-read, is-unposted}
+use Rattle.book.proofs.Replies.{replied}
 use Rattle.book.proofs.Sound.{sound}
-use Rattle.book.proofs.Standings.{found-range, placed, entries-room}
-use Rattle.book.proofs.TakingBack.{is-closed, is-empty, is-some, is-unposted}
+use borrow.Author.Needs.{needs}
 use Rattle.book.proofs.Book.take_back_sound.Statement.{statement}
 use Rattle.book.proofs.Book.take_back_sound.Tie as tie
-use Rattle.book.proofs.Replies.{replied}
+
+taking-back-answer-requires : tie.Need-taking-back-answer-requires
+taking-back-answer-requires c κs = search needs
+
+enum-told : tie.Need-enum-told
+enum-told c = search needs
 
 reply-requires : tie.Need-reply-requires
 reply-requires c κs = search needs
 
+-- both conditions were tested
+answered : (c : tie.After-taking-back-answer)
+    → let s = c .before .before in
+    Answered (s .args .self) (lent (s .args .journal .now)) (c .taking-back-answer .result)
+answered c = record { lawful = c .before .before .pre; number = c .taking-back-answer .ensures }
+
 returns : tie.Need-returns
 returns c =
     let q = c .before in
-    replied (c .reply .ensures) (is-closed _ _ (q .before .before .pre) (q .if1 .taken))
+    let k = q .before in
+    replied (c .reply .ensures) (is-refused (answered k) (refused-number (k .taking-back-answer .result) (q .match .keys2)))
 
-found-at-requires : tie.Need-found-at-requires
-found-at-requires c κs = entries-room _ _ (sound _ _ (c .before .before .before .pre) .short)
+sub-last : tie.Need-sub-last
+sub-last c = is-some (answered (c .before .before)) (c .enum-told .given .1)
+
+entry-at-requires : tie.Need-entry-at-requires
+entry-at-requires c κs =
+    let told = c .before in
+    lies (answered (told .before .before)) (told .enum-told .given .1)
 
 enum-known-entry : tie.Need-enum-known-entry
 enum-known-entry c = search needs
 
-enum-told : tie.Need-enum-told
-enum-told c = search needs
+enum-told-2 : tie.Need-enum-told-2
+enum-told-2 c = search needs
 
 reply-requires-2 : tie.Need-reply-requires-2
 reply-requires-2 c κs = search needs
@@ -35,48 +56,35 @@ same-length c = search needs
 returns-2 : tie.Need-returns-2
 returns-2 c =
     let q = c .before in
-    let last = q .before .before in
-    let opened = last .before .before in
-    let s = opened .before .before in
-    replied (c .reply2 .ensures) (is-empty _ _ (s .pre) (opened .if1 .left) _ (last .found-at .ensures) (q .enum-told .given .1))
-
-sub-last : tie.Need-sub-last
-sub-last c =
-    let read = c .before in
-    let last = read .before .before in
-    let opened = last .before .before in
-    let s = opened .before .before in
-    is-some _ _ (s .pre) (opened .if1 .left) _ (last .found-at .ensures) _ (read .entry .given .1)
+    let read = q .before .before in
+    let told = read .before .before in
+    absurd (is-read (answered (told .before .before)) (told .enum-told .given .1) (sym (read .entry-at .ensures) ∙ q .enum-told2 .given .1))
 
 standing-among-requires : tie.Need-standing-among-requires
 standing-among-requires c κs =
-    let read = c .before .before in
-    let last = read .before .before in
-    let s = last .before .before .before .before in (
-      omega (arith, entries-room _ _ (sound _ _ (s .pre) .short)),
-      found-range _ _ _ (sym (last .found-at .ensures) ∙ read .entry .given .1) .quarter,
-    )
-
-worth-standing-requires : tie.Need-worth-standing-requires
-worth-standing-requires c κs = placed _ _ _ (c .before .standing-among .ensures)
-
-worth-in-requires : tie.Need-worth-in-requires
-worth-in-requires c κs =
-    let read = c .before .before .before .before .before in
-    let last = read .before .before in
-    found-range _ _ _ (sym (last .found-at .ensures) ∙ read .entry .given .1) .point
+    let known = c .before .before in
+    let read = known .before .before in
+    let told = read .before .before in
+    let room = lies (answered (told .before .before)) (told .enum-told .given .1) in
+    (omega (arith, room), read-range _ _ (sym (read .entry-at .ensures) ∙ known .entry .given .1) .quarter)
 
 slice-aggregate-write-at : tie.Need-slice-aggregate-write-at
 slice-aggregate-write-at c = search needs
 
 write-at-requires : tie.Need-write-at-requires
 write-at-requires c κs =
-    let known = c .before .before .before .before .before .before .before in
-    let s = known .before .before .before .before .before .before .before in
-    (omega (arith, entries-room _ _ (sound _ _ (s .pre) .short), sub-last known), refl)
+    let told = c .before .before .before .before .before .before .before .before .before in
+    (lies (answered (told .before .before)) (told .enum-told .given .1), refl)
 
-restated-requires : tie.Need-restated-requires
-restated-requires c κs = worth-in-requires (c .before .before .before .before .before .before) tt
+withdrawn-requires : tie.Need-withdrawn-requires
+withdrawn-requires c κs =
+    let stands = c .before .before .before .before .before in
+    let known = stands .before .before .before in
+    let read = known .before .before in
+    let told = read .before .before in (
+      is-some (answered (told .before .before)) (told .enum-told .given .1),
+      (read-range _ _ (sym (read .entry-at .ensures) ∙ known .entry .given .1) .point, placed _ _ _ (stands .standing-among .ensures)),
+    )
 
 same-length-2 : tie.Need-same-length-2
 same-length-2 c = search needs
@@ -84,34 +92,31 @@ same-length-2 c = search needs
 returns-3 : tie.Need-returns-3
 returns-3 c =
     let written = c .before .before .before in
-    let out = written .before .before .before in
-    let into = out .before in
-    let found = into .before .before in
-    let read = found .before .before .before in
-    let last = read .before .before in
-    let opened = last .before .before in
-    let s = opened .before .before in
-    is-unposted _ _ (s .pre) (opened .if1 .left) _ (last .found-at .ensures) _ (read .entry .given .1) (found .standing-among .ensures)
-    (into .worth-standing .ensures) (out .worth-in .ensures) (written .write-at .ensures) (c .restated .ensures)
+    let stands = written .before .before .before in
+    let known = stands .before .before .before in
+    let read = known .before .before in
+    let told = read .before .before in
+    is-unposted (answered (told .before .before)) (told .enum-told .given .1) (sym (read .entry-at .ensures) ∙ known .entry .given .1)
+    (stands .standing-among .ensures) (written .write-at .ensures) (c .withdrawn .ensures)
 
 pub take-back-sound-spec : {M : Type 1} → statement M
 take-back-sound-spec =
     tie.close
     (tie.spec
+    taking-back-answer-requires
+    enum-told
     reply-requires
     returns
-    found-at-requires
+    sub-last
+    entry-at-requires
     enum-known-entry
-    enum-told
+    enum-told-2
     reply-requires-2
     same-length
     returns-2
-    sub-last
     standing-among-requires
-    worth-standing-requires
-    worth-in-requires
     slice-aggregate-write-at
     write-at-requires
-    restated-requires
+    withdrawn-requires
     same-length-2
     returns-3)

@@ -1,21 +1,32 @@
 -- `book::Book::totals` meets its contract. Assumes nothing.
-use Rattle.book.proofs.Denials.{denied, granted}
-use Rattle.book.proofs.Tested.{given-nothing, given-totals}
+use mathlib.Core.Path.{sym, ap, _∙_}
+use Rattle.answers.specs.Numbers.{numberOf}
+use Rattle.answers.proofs.Refusing.{refused-number}
+use Rattle.book.proofs.Closing.{given-nothing, given-totals}
 use borrow.Author.Needs.{needs}
 use Rattle.book.proofs.Book.totals.Statement.{statement}
 use Rattle.book.proofs.Book.totals.Tie as tie
 
-is-sound-requires : tie.Need-is-sound-requires
-is-sound-requires c κs = search needs
+judge-requires : tie.Need-judge-requires
+judge-requires c κs = search needs
+
+enum-told : tie.Need-enum-told
+enum-told c = search needs
 
 none-requires : tie.Need-none-requires
 none-requires c κs = search needs
 
 returns : tie.Need-returns
-returns c = given-nothing _ _ _ (c .none .ensures) (denied _ _ (c .before .before .is-sound .ensures) (c .before .if1 .taken))
+returns c =
+    let q = c .before in
+    let j = q .before .judge in
+    given-nothing _ _ _ _ (refused-number (j .result) (q .match .keys2)) (j .ensures) (c .none .ensures)
 
 returns-2 : tie.Need-returns-2
-returns-2 c = given-totals _ _ (granted _ _ (c .before .before .is-sound .ensures) (c .before .if1 .left))
+returns-2 c =
+    let told = c .before in
+    let j = told .before .before .judge in
+    given-totals _ _ (ap numberOf (sym (told .enum-told .given .1)) ∙ j .ensures)
 
 pub totals-spec : {M : Type 1} → statement M
-totals-spec = tie.close (tie.spec is-sound-requires none-requires returns returns-2)
+totals-spec = tie.close (tie.spec judge-requires enum-told none-requires returns returns-2)

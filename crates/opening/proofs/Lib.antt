@@ -1,0 +1,3 @@
+pub mod Accepted
+mod InOrder
+pub mod Reading
