@@ -1,0 +1,80 @@
+-- Demand 3, for every file that open accepts, whatever is lent and every list of calls; and that none of these calls is answered by 7.
+-- Assumes nothing.
+use Prim.Native.Nat.{ℕ}
+use mathlib.Core.Path.{_≡_, refl, sym, ap, ap₂, _∙_, subst}
+use mathlib.Core.HLevel.{⊥-prop}
+use mathlib.Core.Logic.{Or·elim}
+use mathlib.Core.Bool.{false, false≢true}
+use mathlib.Core.List.{List, [], _∷_, List·Mem, eq-or-mem-of-mem-cons, not-mem-nil}
+use native.Mathlib.Omega.{arith}
+use lib.ListN.{length}
+use Rattle.refusals.specs.Refusals.{first}
+use Rattle.refusals.proofs.First.{listed, given-listed}
+use Rattle.machine.specs.Machine as machine
+use Rattle.machine.specs.Machine.{State, Change, deliver, takeBack, close, Call, change, totals, Answer, conditions, next, totalsIn}
+use Rattle.book.specs.declared.Book.{Book}
+use Rattle.book.specs.Library as library
+use Rattle.book.specs.Library.{Lent, after}
+use Rattle.opening.specs.Opening.{openingNumber, openedBook}
+use Rattle.demand.specs.Demand.{beside, Demand3}
+use Rattle.demand.proofs.OneCall.{Stands, stays, answers-alike}
+use Rattle.demand.proofs.FreshBook.{opened}
+
+-- A book that stands for the machine's state ..
+module _ {b : Book} {l : Lent} {s : State} (r : Stands b l s) where
+  -- .. stands for its next state after any call
+  moved : (c : Call) → Stands (after b l c .book) (after b l c .lent) (next s c)
+  moved c = let t = stays (r .sound) c in record { sound = t .sound; state = t .state ∙ ap (λ (x : State). next x c) (r .state) }
+
+  -- .. and answers as the machine does
+  answered : (c : Call) → library.answer b l c ≡ machine.answer s c
+  answered c = answers-alike (r .sound) c ∙ ap (λ (t : State). machine.answer t c) (r .state)
+
+-- every list of calls is answered as by the machine
+pub same-answers : {b : Book} {l : Lent} {s : State} → Stands b l s → (cs : List Call) → library.answers b l cs ≡ machine.answers s cs
+unfolding library.answers machine.answers
+same-answers r [] = refl
+same-answers r (c ∷ cs) = ap₂ _∷_ (answered r c) (same-answers (moved r c) cs)
+
+-- and ends in the machine's state
+pub same-end : {b : Book} {l : Lent} {s : State} → Stands b l s → (cs : List Call)
+    → Stands (library.run b l cs .book) (library.run b l cs .lent) (machine.run s cs)
+unfolding library.run machine.run
+same-end r [] = r
+same-end r (c ∷ cs) = same-end (moved r c) cs
+
+-- demand 3
+pub demand-3 : (file : List ℕ) (l : Lent) (calls : List Call) → openingNumber file ≡ 0 → Demand3 file l calls
+demand-3 file l calls h =
+    let r = opened file h l in
+    let e = same-end r calls in
+    record { answered = same-answers r calls; stored = e .sound .totals ∙ ap totalsIn (e .state) }
+
+-- The machine "passes over 7, which no call of such a list gets".
+
+-- 7 is none of a call's own numbers
+unlisted : (s : State) (c : Change) → listed 7 (conditions s c) ≡ false
+unlisted s (deliver bytes) = refl
+unlisted s takeBack = refl
+unlisted s close = refl
+
+-- no call gets it from the machine
+machine-never-7 : (s : State) (c : Call) → machine.answer s c .number ≡ 7 → ⊥
+machine-never-7 s (change c) h =
+    false≢true (sym (unlisted s c) ∙ sym (ap (λ (n : ℕ). listed n (conditions s c)) h) ∙ given-listed (conditions s c))
+machine-never-7 s totals h = omega arith
+
+-- nor does a call of a list
+none-7 : (s : State) (cs : List Call) (a : Answer) → List·Mem a (machine.answers s cs) → a .number ≡ 7 → ⊥
+unfolding machine.answers
+none-7 s [] a m h = not-mem-nil m
+none-7 s (c ∷ cs) a m h =
+    Or·elim ⊥-prop (eq-or-mem-of-mem-cons m)
+    (λ e. machine-never-7 s c (ap (λ (x : Answer). x .number) (sym e) ∙ h))
+    (λ n. none-7 (next s c) cs a n h)
+
+-- nor does one from the library
+pub never-7 : (file : List ℕ) (l : Lent) (calls : List Call) → openingNumber file ≡ 0
+    → (a : Answer) → List·Mem a (library.answers (openedBook file) l calls) → a .number ≡ 7 → ⊥
+never-7 file l calls h a m e =
+    none-7 (beside file (length (l .journal))) calls a (subst (List·Mem a) (demand-3 file l calls h .answered) m) e

@@ -1,0 +1,80 @@
+-- The book that an accepted open gives: sound over whatever is lent, and the machine's fresh state; and the void book. Assumes nothing.
+use Prim.Native.Nat.{ℕ, _-_}
+use mathlib.Core.Path.{_≡_, refl, sym, ap, subst, _∙_}
+use mathlib.Core.Bool.{true, false, not}
+use mathlib.Core.List.{List, _++_}
+use native.Mathlib.Omega.{arith}
+use borrow.Author.Tests.{le-leb}
+use lib.ListN.{length, take, replicate}
+use lib.Seq.{take-at}
+use Rattle.refusals.proofs.First.{decided, stop}
+use Rattle.lists.specs.Lists.{allOf, anyBelow, placesBelow}
+use Rattle.lists.proofs.Laws.{none-at, all-places}
+use Rattle.month_file.specs.declared.header.Header.{Header}
+use Rattle.month_file.specs.declared.point.Point.{Point}
+use Rattle.month_file.specs.Header.{headerInRange}
+use Rattle.month_file.specs.Point.{pointIn, pointInRange, wrongPoint, noPoint}
+use Rattle.month_file.proofs.Headers.{in-range}
+use Rattle.month_file.proofs.Readable.{header-reads, point-reads}
+use Rattle.machine.specs.Machine.{Change, fresh, conditions}
+use Rattle.machine.proofs.Totals.{totals-nothing}
+use Rattle.journal.specs.Journal.{entries}
+use Rattle.audit.specs.Audit as audit
+use Rattle.audit.specs.Audit.{frameOf, unlawful}
+use Rattle.book.specs.declared.Book.{Book}
+use Rattle.book.specs.Library.{Lent, view, unsound, guards, number}
+use Rattle.opening.specs.Opening.{headerBytes, pointBytes, header, points, firstPoints, anyWrong, openingNumber, masterOf, padded}
+use Rattle.opening.specs.Opening.{void, freshOf, openedBook}
+use Rattle.opening.proofs.Accepted.{openable, opened-fresh}
+use Rattle.opening.proofs.Reading.{length-points}
+use Rattle.demand.proofs.OneCall.{Stands}
+
+-- the points of a file are in range, if 4 stops none of them
+points-in-range : (n : ℕ) (file : List ℕ) → anyWrong n file ≡ false → allOf pointInRange (firstPoints n file) ≡ true
+points-in-range n file h =
+    all-places pointInRange (λ i. pointIn (pointBytes i file)) n
+    (λ i k. point-reads .range (pointBytes i file) (none-at (λ x. wrongPoint (pointBytes x file)) n i h k) .0)
+
+-- a month in range is so without its entries too
+month-in-range : (h : Header) → headerInRange h ≡ true
+    → headerInRange (record { year = h .year; month = h .month; points = h .points; entries = 0 }) ≡ true
+unfolding headerInRange
+month-in-range h t = rw (le-leb (h .entries) 65535 (in-range h t .entries-most)) at t
+
+-- a fresh book of a month and points in range is sound, and stands for the machine's fresh state
+fresh-stands : (h : Header) (ps : List Point) → headerInRange h ≡ true → length ps ≡ h .points → allOf pointInRange ps ≡ true
+    → (l : Lent) → Stands (freshOf (masterOf h (padded ps))) l (fresh h ps (length (l .journal)))
+unfolding entries placesBelow anyBelow audit.wrongMonth audit.wrongPoint
+fresh-stands h ps t n a l =
+    let spare = replicate (8 - length ps) noPoint in
+    let e : take (h .points) (ps ++ spare) ≡ ps = take-at ps spare (h .points) n in
+    record {
+      sound =
+          record {
+            ranged = record { month = ap not (month-in-range h t); point = ap not (ap (allOf pointInRange) e ∙ a) };
+            short = omega arith;
+            entries = refl;
+            totals = sym (totals-nothing (frameOf (masterOf h (padded ps)) .points));
+          };
+      state = λ i. fresh h (e i) (length (l .journal));
+    }
+
+-- so is the book of an accepted open, over whatever is lent
+pub opened : (file : List ℕ) → openingNumber file ≡ 0 → (l : Lent)
+    → Stands (openedBook file) l (fresh (header file) (points file) (length (l .journal)))
+opened file h l =
+    let o = openable file h in
+    let n = header file .points in
+    subst (λ (b : Book). Stands b l (fresh (header file) (points file) (length (l .journal)))) (sym (opened-fresh file h))
+    (fresh-stands (header file) (points file) (header-reads .range (headerBytes file) (o .header-right) .0) (length-points n file)
+    (points-in-range n file (o .points-right)) l)
+
+-- the void book is "closed, no points, every number 0"
+pub void-unsound : (l : Lent) → unsound void l ≡ true
+unfolding void unsound unlawful audit.wrongMonth headerInRange
+void-unsound l = refl
+
+-- "so that 7 meets each call on it"
+pub void-number : (l : Lent) (c : Change) → number void l c ≡ 7
+unfolding number
+void-number l c = decided (guards void l) (conditions (view void l) c) 7 (omega arith) (stop 7 0 (void-unsound l))
