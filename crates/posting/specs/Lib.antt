@@ -1,3 +1,1 @@
 pub mod Posting
-pub mod RoundTrip
-pub mod Writing
