@@ -1,5 +1,1 @@
-mod Decimals
-mod Filling
-mod Lines
-pub mod Pages
 mod Printed

@@ -2,53 +2,37 @@
 use Prim.Native.Nat.{ℕ, _<_, _≤_}
 use mathlib.Core.Path.{_≡_}
 use mathlib.Core.List.{List, map}
-use native.Mathlib.Omega.{arith}
-use borrow.Author.Tests.{lt-ltb, le-ltb, ne-eqb}
-use lib.ListN.{length, replicate}
-use Rattle.month_file.specs.Calendar.{quartersOf}
-use Rattle.worth.specs.Figures.{nothing}
+use borrow.Author.Tests.{lt-ltb, le-ltb, eq-eqb, ne-eqb}
+use lib.ListN.{length}
+use Rattle.calendar.specs.Calendar.{quartersOf}
 use Rattle.book.specs.declared.Book.{Book}
-use Rattle.posting.specs.Posting.{posting, Result, result}
-use Rattle.report.specs.declared.Line.{Line}
-use Rattle.report.specs.declared.Statement.{Statement}
-use Rattle.report.specs.Statement.{lineOf, refusedBy, ofBook, reported, statement}
+use Rattle.book.specs.Library.{Lent}
+use Rattle.posting.specs.Posting.{PostResult, posting}
+use Rattle.statement_text.specs.declared.Line.{Line}
+use Rattle.statement_text.specs.declared.Statement.{Statement}
+use Rattle.statement_lines.specs.Lines.{lineOf}
+use Rattle.report.specs.Statement.{refusedBy, ofBook, reported, statement}
 
--- a refusal: its number beside zeros
-pub zeros : (n : ℕ) (l : Line) → l ≡ lineOf nothing
+-- the statement, once it is known whether it is a refusal
+pub turned-down : (n : ℕ) (b : Book) (s : Statement) → (n ≡ 0 → ⊥) → s ≡ refusedBy n → s ≡ reported n b
+unfolding reported
+turned-down n b s z e = rw (ne-eqb n 0 z) e
+
+pub in-full : (n : ℕ) (b : Book) (q : ℕ) (ls : List Line) → n ≡ 0 → q ≡ quartersOf (b .master .year) (b .master .month)
+    → ls ≡ map lineOf (b .totals)
     → _≡_ {A = Statement}
-    (record { number = n; year = 0; month = 0; quarters = 0; entries = 0; count = 0; lines = replicate 8 l })
-    (refusedBy n)
-unfolding refusedBy
-zeros n l e = rw e
+    (record { number = 0; year = b .master .year; month = b .master .month; quarters = q; entries = b .length; count = b .master .count; lines = ls })
+    (reported n b)
+unfolding reported ofBook
+in-full n b q ls z e f = rw (eq-eqb n 0 z, e, f)
 
--- a book posted in full: its month, its counts and its lines
-pub figured : (b : Book) (q : ℕ) (ls : List Line) → q ≡ quartersOf (b .year) (b .month) → ls ≡ map lineOf (b .totals)
-    → _≡_ {A = Statement}
-    (record { number = 0; year = b .year; month = b .month; quarters = q; entries = b .length; count = b .count; lines = ls })
-    (ofBook b)
-unfolding ofBook
-figured b q ls e f = rw (e, f)
+-- too much was read
+pub too-much : (input : List ℕ) (l : Lent) (s : Statement) → 65536 < length input → s ≡ refusedBy 12 → (s, l) ≡ statement input l
+unfolding statement
+too-much input l s h e = rw (lt-ltb 65536 (length input) h, e)
 
--- The statement of an input and a journal.
-module _ (input j : List ℕ) (s : Statement) where
-  -- too much was read
-  pub too-much : 65536 < length input → s ≡ refusedBy 12 → (s, j) ≡ statement input j
-  unfolding statement
-  too-much h e = rw (lt-ltb 65536 (length input) h, e)
-
-  -- what posting gives is reported
-  shown : length input ≤ 65536 → (x : Result) → x ≡ posting input j → s ≡ reported x → (s, x .journal) ≡ statement input j
-  unfolding statement
-  shown h x p e = rw (le-ltb 65536 (length input) h, ← p, e)
-
-  -- it was turned down
-  pub turned-down : length input ≤ 65536 → (n m i : ℕ) (b : Book) (k : List ℕ) → result m i b k ≡ posting input j
-      → n ≡ m → (n ≡ 0 → ⊥) → s ≡ refusedBy n → (s, k) ≡ statement input j
-  unfolding reported
-  turned-down h n m i b k p e z r = shown h (result m i b k) p (rw (← e, ne-eqb n 0 z, r))
-
-  -- it was posted in full
-  pub in-full : length input ≤ 65536 → (n m i : ℕ) (b : Book) (k : List ℕ) → result m i b k ≡ posting input j
-      → n ≡ m → n ≡ 0 → s ≡ ofBook b → (s, k) ≡ statement input j
-  unfolding reported
-  in-full h n m i b k p e z r = let y : m ≡ 0 = omega arith in shown h (result m i b k) p (rw (y, r))
+-- what posting gives is reported
+pub shown : (input : List ℕ) (l : Lent) (s : Statement) (n : ℕ) (x : PostResult) → length input ≤ 65536 → x ≡ posting input l
+    → n ≡ x .number → s ≡ reported n (x .book) → (s, x .lent) ≡ statement input l
+unfolding statement
+shown input l s n x h p e r = rw (le-ltb 65536 (length input) h, ← p, ← e, r)

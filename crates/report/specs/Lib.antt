@@ -1,3 +1,1 @@
-pub mod Behind
 pub mod Statement
-pub mod Text

@@ -11,7 +11,7 @@ use files::HALF_RAPPEN;
 use files::LARGEST_HEAD;
 use libc::STDOUT_FILENO;
 use report::statement_of;
-use report::text_of;
+use statement_text::text_of;
 
 fn main() {
     show(b"example", &EXAMPLE);

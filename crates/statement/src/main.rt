@@ -1,6 +1,6 @@
 // Prints the statement of the month file on standard input.
 use report::statement_of;
-use report::text_of;
+use statement_text::text_of;
 
 fn main() {
     // One byte more than a month file may have: that many show that it is too long.
