@@ -1,64 +1,45 @@
--- What `answer_call` leaves: book and journal after the call, and its answer in the slice. Totals changes nothing and answers what it
--- gives; any other call answers its number alone. Assumes nothing.
+-- What `answer_call` leaves: the book and what is lent after the call, and its answer in the slice. Totals changes nothing and answers
+-- what it gives; any other call answers its number alone. Assumes nothing.
 use Prim.Native.Nat.{ℕ}
-use mathlib.Core.Path.{_≡_, refl, sym, ap, _∙_}
-use mathlib.Core.Bool.{Bool, true, false, cond}
+use mathlib.Core.Path.{_≡_, refl, ap, _∙_}
 use mathlib.Core.List.{List, [], _∷_}
 use native.Mathlib.Omega.{arith}
-use lib.Dec.{eqb}
-use lib.Seq.{paste}
-use Rattle.bits.specs.Fields.{bytes}
+use Rattle.bits.specs.Fields.{withWords}
+use Rattle.machine.specs.Machine.{Answer, Call, change, totals}
 use Rattle.book.specs.declared.Book.{Book}
-use Rattle.book.specs.Machine.{Answer, Call, deliver, takeBack, close, totals}
-use Rattle.book.specs.Library.{Outcome, outcome, number, called, answer, given}
-use Rattle.call_list.specs.Answers as answers
-use Rattle.call_list.specs.Answers.{numbers}
-use Rattle.call_list.specs.Steps.{room, stored}
-use Rattle.call_list.proofs.Stored.{stored-one}
+use Rattle.book.specs.Library.{Lent, Outcome, answer, after, totalsGiven}
+use Rattle.call_script.specs.Room.{room}
+use Rattle.call_answers.specs.Answers.{lengthAndFigures, numbers}
 
 -- a call whose answer takes eight bytes answers its number alone
-alone : (b : Book) (j : List ℕ) (c : Call) → 8 ≡ room c → called b j c .number ∷ [] ≡ numbers (answer b j c)
-unfolding answer answers.lengthAndFigures
-alone b j (deliver bytes) h = refl
-alone b j takeBack h = refl
-alone b j close h = refl
-alone b j totals h = absurd (omega arith)
+alone : (b : Book) (l : Lent) (c : Call) → 8 ≡ room c → after b l c .number ∷ [] ≡ numbers (answer b l c)
+unfolding lengthAndFigures
+alone b l (change c) h = refl
+alone b l totals h = absurd (omega arith)
 
--- totals changes neither book nor journal
-kept : (b : Book) (j : List ℕ) → (b ≡ called b j totals .book) × (j ≡ called b j totals .journal)
-unfolding called
-kept b j = go (eqb (number b j totals) 0)
-  where
-    go : (t : Bool)
-        → (b ≡ cond t (outcome 0 b j) (outcome (number b j totals) b j) .book)
-        × (j ≡ cond t (outcome 0 b j) (outcome (number b j totals) b j) .journal)
-    go true = (refl, refl)
-    go false = (refl, refl)
-
--- the call c on book b and journal j, its answer put into `out` from `to` on
-module _ (b : Book) (j : List ℕ) (c : Call) (out : List ℕ) (to : ℕ) where
-  -- book, journal and slice are as the call leaves them
-  abbrev pub Left : Book → List ℕ → List ℕ → Type 0
-  Left b′ j′ xs = (b′ ≡ called b j c .book) × ((j′ ≡ called b j c .journal) × (xs ≡ stored out to (numbers (answer b j c))))
+-- the call c on book b and what is lent, its answer put into `out` from `to` on
+module _ (b : Book) (l : Lent) (c : Call) (out : List ℕ) (to : ℕ) where
+  -- the book, what is lent and the slice are as the call leaves them
+  abbrev pub Left : Book → Lent → List ℕ → Type 0
+  Left b′ l′ xs = (b′ ≡ after b l c .book) × ((l′ ≡ after b l c .lent) × (xs ≡ withWords out to (numbers (answer b l c))))
 
   -- totals, with what it gave in the slice
-  pub totals-left : totals ≡ c → (a : Answer) (xs : List ℕ) → a ≡ given b j → xs ≡ stored out to (numbers a) → Left b j xs
-  unfolding answer
+  pub totals-left : totals ≡ c → (a : Answer) (xs : List ℕ) → a ≡ totalsGiven b l → xs ≡ withWords out to (numbers a) → Left b l xs
   totals-left e a xs g p = (
-    kept b j .0 ∙ ap (λ (d : Call). called b j d .book) e,
+    ap (λ (d : Call). after b l d .book) e,
     (
-      kept b j .1 ∙ ap (λ (d : Call). called b j d .journal) e,
-      p ∙ ap (λ (x : Answer). stored out to (numbers x)) (g ∙ ap (answer b j) e),
+      ap (λ (d : Call). after b l d .lent) e,
+      p ∙ ap (λ (x : Answer). withWords out to (numbers x)) (g ∙ ap (answer b l) e),
     ),
   )
 
   -- any other call, with its number in the slice
-  pub change-left : 8 ≡ room c → (o : Outcome) (xs : List ℕ) → o ≡ called b j c → xs ≡ paste out to (bytes (o .number) 8) 8
-      → Left (o .book) (o .journal) xs
+  pub change-left : 8 ≡ room c → (o : Outcome) (xs : List ℕ) → o ≡ after b l c → xs ≡ withWords out to (o .number ∷ [])
+      → Left (o .book) (o .lent) xs
   change-left h o xs e p = (
     ap (λ (x : Outcome). x .book) e,
     (
-      ap (λ (x : Outcome). x .journal) e,
-      p ∙ sym (stored-one out to (o .number)) ∙ ap (stored out to) (ap (λ (x : Outcome). x .number ∷ []) e ∙ alone b j c h),
+      ap (λ (x : Outcome). x .lent) e,
+      p ∙ ap (withWords out to) (ap (λ (x : Outcome). x .number ∷ []) e ∙ alone b l c h),
     ),
   )

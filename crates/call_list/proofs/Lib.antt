@@ -1,8 +1,3 @@
 mod Answered
-mod Asking
-mod Columns
-mod Fitting
 mod Runs
-pub mod Scripts
-pub mod Stored
-pub mod Turns
+mod Turns

@@ -1,5 +1,1 @@
-pub mod Script
-pub mod Answers
 pub mod Run
-pub mod Measured
-pub mod Steps

@@ -1,26 +1,28 @@
 // Running a list of calls on the book of a file.
 use crate::Ran;
 use crate::answering::answer_call;
-use crate::script::fits;
-use crate::script::room_at;
-use crate::script::size_at;
-use book::Answer;
+use answers::Answer;
 use book::Book;
-use book::open;
+use call_script::fits;
+use call_script::room_at;
+use call_script::size_at;
+use opening::open;
 ghost use mathlib.Core.Path.{_≡_};
 ghost use mathlib.Core.Bool.{false};
 ghost use Prim.Native.Nat.{_≤_};
 ghost use lib.ListN.{length};
+ghost use Rattle.bits.specs.Fields.{withWords};
 ghost use Rattle.book.specs.Library as library;
-ghost use Rattle.call_list.specs.Script.{calls};
-ghost use Rattle.call_list.specs.Answers.{allNumbers};
-ghost use Rattle.call_list.specs.Run.{given, running};
-ghost use Rattle.call_list.specs.Steps.{roomOf, stored};
+ghost use Rattle.book.specs.Library.{lent};
+ghost use Rattle.call_script.specs.Script.{calls};
+ghost use Rattle.call_script.specs.Room.{roomOf};
+ghost use Rattle.call_answers.specs.Answers.{allNumbers};
+ghost use Rattle.call_list.specs.Run.{runGiven, running};
 
 // Opens the file, makes the calls that the script holds, all on one journal, and puts their answers
 // into the first bytes of `answers`. Where these are too few no call is made.
 pub fn run_calls(file: &[u8], script: &[u8], journal: &mut [u8], answers: &mut [u8]) -> Ran
-    ensures { λ r. ⌜ given r (now (journal .exit)) (now (answers .exit)) ≡ running (now (file .entry)) (now (script .entry)) (now (journal .entry)) (now (answers .entry)) ⌝ }
+    ensures { λ r. ⌜ runGiven r (lent (now (journal .exit))) (now (answers .exit)) ≡ running (now (file .entry)) (now (script .entry)) (lent (now (journal .entry))) (now (answers .entry)) ⌝ }
 {
     let opened = open(file);
     let book = opened.book;
@@ -43,11 +45,11 @@ pub fn run_calls(file: &[u8], script: &[u8], journal: &mut [u8], answers: &mut [
 
 // Makes the calls one after the other, and gives how many bytes their answers take.
 fn make_calls(mut book: Book, script: &[u8], journal: &mut [u8], output: &mut [u8]) -> usize
-    requires { ⌜ library.unsound book (now journal) ≡ false ⌝ }
+    requires { ⌜ library.unsound book (lent (now journal)) ≡ false ⌝ }
     requires { ⌜ roomOf (calls (now script)) ≤ length (now output) ⌝ }
     ensures { λ r. ⌜ r ≡ roomOf (calls (now (script .entry))) ⌝ }
-    ensures { λ _. ⌜ now (journal .exit) ≡ library.run book (now (journal .entry)) (calls (now (script .entry))) .journal ⌝ }
-    ensures { λ _. ⌜ now (output .exit) ≡ stored (now (output .entry)) 0 (allNumbers (library.answers book (now (journal .entry)) (calls (now (script .entry))))) ⌝ }
+    ensures { λ _. ⌜ lent (now (journal .exit)) ≡ library.run book (lent (now (journal .entry))) (calls (now (script .entry))) .lent ⌝ }
+    ensures { λ _. ⌜ now (output .exit) ≡ withWords (now (output .entry)) 0 (allNumbers (library.answers book (lent (now (journal .entry))) (calls (now (script .entry))))) ⌝ }
 {
     let mut at = 0usize;
     let mut to = 0usize;

@@ -1,6 +1,6 @@
 // The lines that are printed for the calls of a script.
-use call_list::size_at;
-ghost use Prim.Native.Nat.{_≤_};
+use call_script::room_at;
+use call_script::size_at;
 
 // Prints the answer to each call of the script. The answers stand one after the other.
 pub(crate) fn print_answers(script: &[u8], answers: &[u8]) {
@@ -12,7 +12,7 @@ pub(crate) fn print_answers(script: &[u8], answers: &[u8]) {
             return;
         }
         let kind = script[at];
-        let end = from + room_of(kind);
+        let end = from + room_at(script, at);
         if answers.len() < end {
             return;
         }
@@ -20,16 +20,6 @@ pub(crate) fn print_answers(script: &[u8], answers: &[u8]) {
         from = end;
         at += size;
     }
-}
-
-// How many bytes the answer to a call takes.
-fn room_of(kind: u8) -> usize
-    ensures { λ r. ⌜ r ≤ 528 ⌝ }
-{
-    if kind == 3 {
-        return 528;
-    }
-    8
 }
 
 // Prints a line, and for totals eight more.

@@ -4,15 +4,16 @@ use mathlib.Core.Path.{sym, _∙_}
 use native.Mathlib.Omega.{arith}
 use borrow.Author.Needs.{needs}
 use lib.ListN.{length}
+use Rattle.book.specs.Library.{lent}
 use Rattle.book.proofs.Sound.{sound}
-use Rattle.call_list.proofs.Scripts.{calls-none, calls-end}
-use Rattle.call_list.proofs.Turns.{Turns, none-made, all-room, all-journal, all-answers, inside, has-room, goes-on}
+use Rattle.call_script.proofs.Scripts.{calls-none, calls-end}
+use Rattle.call_list.proofs.Turns.{Turns, none-made, all-room, all-lent, all-answers, inside, has-room, goes-on}
 use Rattle.call_list.proofs.running.make_calls.Statement.{statement}
 use Rattle.call_list.proofs.running.make_calls.Tie as tie
 
 abbrev Inv-loop : tie.InvT-loop
 Inv-loop book₀ script journal₀ output₀ at₀ to₀ counter₀ end book journal output at to counter =
-    Turns script book₀ journal₀ output₀ book journal output counter at to
+    Turns script book₀ (lent journal₀) output₀ book (lent journal) output counter at to
 
 abbrev μ-loop : tie.MeasureT-loop
 μ-loop book₀ script journal₀ output₀ at₀ to₀ counter₀ end book journal output at to counter = length script - counter
@@ -33,7 +34,7 @@ returns : tie.Need-returns Inv-loop μ-loop
 returns c =
     let t = c .before .before .before .loop .inv in
     let none = calls-none _ _ _ (sym (c .before .size-at .ensures) ∙ c .if1 .taken) in
-    (all-room _ _ _ _ _ _ _ _ _ _ t none, (all-journal _ _ _ _ _ _ _ _ _ _ t none, all-answers _ _ _ _ _ _ _ _ _ _ t none))
+    (all-room _ _ _ _ _ _ _ _ _ _ t none, (all-lent _ _ _ _ _ _ _ _ _ _ t none, all-answers _ _ _ _ _ _ _ _ _ _ t none))
 
 room-at-requires : tie.Need-room-at-requires Inv-loop μ-loop
 room-at-requires c κs = omega (arith, c .if1 .left, c .before .size-at .ensures)
@@ -56,7 +57,7 @@ add-to c =
     let room = has-room _ _ _ _ _ _ _ _ _ _ (test .before .loop .inv) (test .loop-test .taken) _ (sized .ensures)
     (omega (arith, else .if1 .left)) (c .before .before .before .before .before .before .before .before .before .before .before .before .before .before .before .pre .1)
     in
-    omega (arith, room, c .before .before .before .before .before .before .before .room-at .ensures)
+    omega (arith, room, c .before .before .before .before .before .before .before .room-at .ensures .0, test .before .loop .inv .size, c .before .before .before .before .before .before .before .before .before .before .before .before .before .before .before .good .1 .1 .1 .0 .0)
 
 add-at : tie.Need-add-at Inv-loop μ-loop
 add-at c =
@@ -87,7 +88,7 @@ loop-again c =
     let sized = else .before .size-at in
     let call = c .before .before .before .before .answer-call in
     goes-on _ _ _ _ _ _ _ _ _ _ (test .before .loop .inv) (test .loop-test .taken) _ (sized .ensures) (omega (arith, else .if1 .left))
-    (c .before .before .before .before .before .before .before .before .before .before .before .before .before .before .before .pre .1) _ _ _ _ (c .before .before .before .before .before .before .before .room-at .ensures) (call .ensures .0) (call .ensures .1 .0) (call .ensures .1 .1) (search needs) (search needs)
+    (c .before .before .before .before .before .before .before .before .before .before .before .before .before .before .before .pre .1) _ _ _ _ (c .before .before .before .before .before .before .before .room-at .ensures .0) (call .ensures .0) (call .ensures .1 .0) (call .ensures .1 .1) (search needs) (search needs)
 
 same-length-3 : tie.Need-same-length-3 Inv-loop μ-loop
 same-length-3 c = c .before .loop .inv .journal-size
@@ -100,7 +101,7 @@ returns-2 c =
     let l = c .before .loop in
     let t = l .inv in
     let none = calls-end (c .before .before .before .before .before .args .script .now) (l .counter) (l .at) (c .loop-test .left) in
-    (all-room _ _ _ _ _ _ _ _ _ _ t none, (all-journal _ _ _ _ _ _ _ _ _ _ t none, all-answers _ _ _ _ _ _ _ _ _ _ t none))
+    (all-room _ _ _ _ _ _ _ _ _ _ t none, (all-lent _ _ _ _ _ _ _ _ _ _ t none, all-answers _ _ _ _ _ _ _ _ _ _ t none))
 
 pub make-calls-spec : {M : Type 1} → statement M
 make-calls-spec =

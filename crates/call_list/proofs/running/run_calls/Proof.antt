@@ -2,10 +2,11 @@
 use mathlib.Core.Path.{sym, ap, _∙_}
 use borrow.Author.Needs.{needs}
 use borrow.Author.Tests.{leb-true, not-true, not-false}
-use Rattle.book.specs.Library.{numberOf}
-use Rattle.book.proofs.Opened.{opened}
-use Rattle.book.proofs.Refusing.{refused-number}
+use Rattle.answers.specs.Numbers.{numberOf}
+use Rattle.answers.proofs.Refusing.{refused-number}
+use Rattle.book.specs.Library.{lent}
 use Rattle.book.proofs.Sound.{not-unsound}
+use Rattle.demand.proofs.FreshBook.{opened}
 use Rattle.call_list.proofs.Runs.{not-opened, too-short, runs}
 use Rattle.call_list.proofs.running.run_calls.Statement.{statement}
 use Rattle.call_list.proofs.running.run_calls.Tie as tie

@@ -3,8 +3,8 @@ use Prim.Native.Nat.{_-_, _≤_, _<_}
 use native.Mathlib.Omega.{arith}
 use borrow.Author.Needs.{needs}
 use lib.ListN.{length}
-use Rattle.call_list.specs.Script.{sizeAt}
-use Rattle.call_list.proofs.Scripts.{whole-inside, whole-end}
+use Rattle.call_script.specs.Script.{sizeAt}
+use Rattle.call_script.proofs.Scripts.{whole-inside, whole-end}
 use Rattle.replay.proofs.page.print_answers.Statement.{statement}
 use Rattle.replay.proofs.page.print_answers.Tie as tie
 
@@ -31,8 +31,8 @@ shared-slice-read-kind c =
     let whole : 0 < sizeAt script (l .at) = omega (arith, else .if1 .left, else .before .size-at .ensures) in
     whole-inside _ _ whole
 
-room-of-requires : tie.Need-room-of-requires Inv-loop μ-loop
-room-of-requires c κs = search needs
+room-at-requires : tie.Need-room-at-requires Inv-loop μ-loop
+room-at-requires c κs = search needs
 
 add-end : tie.Need-add-end Inv-loop μ-loop
 add-end c = search needs
@@ -82,7 +82,7 @@ print-answers-spec =
     size-at-requires
     returns
     shared-slice-read-kind
-    room-of-requires
+    room-at-requires
     add-end
     returns-2
     sub-print-answer
