@@ -1,4 +1,4 @@
-//! Tells the linker where the archive of the crate `call_list` lies.
+//! Tells the linker where the archive of the crate `reactive` lies.
 use std::env;
 use std::path::PathBuf;
 
@@ -9,6 +9,6 @@ fn main() {
         .unwrap_or_else(|| PathBuf::from(env::var_os("CARGO_MANIFEST_DIR").expect("set by cargo")).join("../target"));
     let folder = target.join("staticlib");
     println!("cargo:rustc-link-search=native={}", folder.display());
-    println!("cargo:rerun-if-changed={}", folder.join("libcall_list.a").display());
+    println!("cargo:rerun-if-changed={}", folder.join("libreactive.a").display());
     println!("cargo:rerun-if-env-changed=REACTIVE_TARGET");
 }

@@ -1,5 +1,5 @@
 /* The classification of one quarter-hour of reactive energy, as a C program calls it.
- * Link the archive that `rt staticlib quarter` writes, target/staticlib/libquarter.a. */
+ * Link the archive that `rt staticlib reactive` writes, target/staticlib/libreactive.a. */
 #ifndef REACTIVE_H
 #define REACTIVE_H
 

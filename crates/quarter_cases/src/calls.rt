@@ -57,7 +57,7 @@ fn show_in(c: [u32; 9], buffer: &mut [u8]) {
         return;
     }
     let lent = &mut buffer[..n];
-    let answer = quarter::reactive_classify(c[0], c[1], c[2], c[3], c[4], c[5], c[6], c[7], lent);
+    let answer = reactive::reactive_classify(c[0], c[1], c[2], c[3], c[4], c[5], c[6], c[7], lent);
     io::print_decimal(STDOUT_FILENO, answer as u64);
     show_bytes(buffer);
 }

@@ -67,7 +67,7 @@ fn show(q: [u32; 8]) {
         actual: Voltage::of(q[6]),
         set: Voltage::of(q[7]),
     };
-    show_worth(role_of(q[0], q[2]), level_of(q[1]), metered);
+    show_worth(role_of(q[0], q[2]), quarter::level_of(q[1] as u64), metered);
 }
 
 // The shares of a quarter-hour and what they are worth.
@@ -105,14 +105,6 @@ fn role_of(role: u32, band: u32) -> Role {
         return Role::Active;
     }
     Role::SemiActive(Grains::of(band as u64))
-}
-
-// The level that a number stands for.
-fn level_of(level: u32) -> Level {
-    if level == 0 {
-        return Level::Kv220;
-    }
-    Level::Kv380
 }
 
 // The tariffs of 01's example: 300 and 1000, and a penalty of 500 for the active role.

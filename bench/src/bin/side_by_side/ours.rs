@@ -1,10 +1,10 @@
-//! The call of the archive `call_list`, which posts a file and gives its totals.
+//! The call of the archive `reactive` that posts a file and gives its totals.
 use oracle::book::{Figures, PLACES};
 
 /// Bytes of an answer: number, length of the journal's list, and the figures of 8 places.
 pub const ANSWER_SIZE: usize = 8 * (2 + 8 * PLACES);
 
-#[link(name = "call_list", kind = "static")]
+#[link(name = "reactive", kind = "static")]
 extern "C" {
     fn reactive_post_totals(
         file: *const u8,

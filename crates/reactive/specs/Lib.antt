@@ -1,0 +1,2 @@
+pub mod QuarterHour
+pub mod Measured

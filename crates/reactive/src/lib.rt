@@ -1,0 +1,7 @@
+// The one door to C: functions on plain numbers and slices, each thin over the crate that does the
+// work. `include/reactive.h` declares the calls of the members' C program.
+mod measured;
+mod quarter_hour;
+
+pub use measured::reactive_post_totals;
+pub use quarter_hour::reactive_classify;
