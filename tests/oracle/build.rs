@@ -1,4 +1,4 @@
-//! Tells the linker where the archive of the crate `quarter` lies, for tests/c_call.rs.
+//! Tells the linker where the archive of the crate `reactive` lies, for tests/c_call.rs.
 use std::env;
 use std::path::PathBuf;
 
@@ -7,9 +7,9 @@ fn main() {
         PathBuf::from(env::var_os("CARGO_MANIFEST_DIR").expect("set by cargo")).join("../../target")
     });
     let folder = target.join("staticlib");
-    let archive = folder.join("libquarter.a");
+    let archive = folder.join("libreactive.a");
     if !archive.exists() {
-        println!("cargo:warning={} is missing: `rt staticlib quarter` writes it", archive.display());
+        println!("cargo:warning={} is missing: `rt staticlib reactive` writes it", archive.display());
     }
     println!("cargo:rustc-link-search=native={}", folder.display());
     println!("cargo:rerun-if-changed={}", archive.display());

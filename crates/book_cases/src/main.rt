@@ -1,29 +1,26 @@
-// Runs the book on cases of document 01: every call, every refusal, and books and journals that no call
-// has made. The file `stdout` has the answers; docs/book_cases.md says where they come from, and works
-// them out.
+// Runs the book on the cases of a text, its standard input: every call, every refusal, and books and
+// journals that no call has made. docs/book_cases.md has the language of the text; the answers that are
+// due, in the file `stdout`, are those of the reader of the same text in tests/oracle.
 //
-// A line is a case. It has a label, then each call with the number answered. Beside a refusal stands
-// `kept` where book and journal are as before, and `void` beside an opening that hands back the void
-// book. Totals has the length and, for each place that is not all 0, the place and its eight figures.
-mod deliveries;
-mod desk;
-mod forged_entries;
-mod forged_month;
-mod forged_points;
-mod forged_totals;
-mod inputs;
-mod openings;
+// A line printed is a case. It has a label, then each call with the number answered. Beside a refusal
+// stands `kept` where book and journal are as before, and `void` beside an opening that hands back the
+// void book. Totals has the length and, for each place that is not all 0, the place and its eight
+// figures. A command that is not understood prints `?`.
+mod buffers;
+mod calls;
+mod commands;
+mod fields;
+mod forge;
 mod print;
-mod same;
-mod scripts;
-mod steps;
+mod words;
+
+use libc::STDIN_FILENO;
 
 fn main() {
-    scripts::show_all();
-    deliveries::show_all();
-    openings::show_all();
-    forged_month::show_all();
-    forged_points::show_all();
-    forged_entries::show_all();
-    forged_totals::show_all();
+    let mut input = io::large_buffer();
+    let count = io::read_full(STDIN_FILENO, &mut input);
+    if count == 65_536 {
+        print::text(b"too long a text");
+    }
+    commands::run(&input[..count]);
 }

@@ -1,8 +1,6 @@
-// Words, numbers and bytes on standard output.
-use bits::get;
+// Words, numbers and figures on standard output.
 use libc::STDOUT_FILENO;
 use worth::Figures;
-ghost use Prim.Native.Nat.{_+_, _≤_};
 
 // Bytes as they are.
 pub fn text(text: &[u8]) {
@@ -15,39 +13,11 @@ pub fn number(n: u64) {
     io::print_decimal(STDOUT_FILENO, n);
 }
 
-// The end of a line.
-pub fn end_of_line() {
-    text(b"\n");
-}
-
-// The bytes of a journal in hexadecimal, a place of 12 bytes to a group.
-pub fn hex(journal: &[u8; 60]) {
-    group(journal, 0);
-    group(journal, 96);
-    group(journal, 192);
-    group(journal, 288);
-    group(journal, 384);
-}
-
-// The 12 bytes from a bit on.
-fn group(journal: &[u8; 60], at: usize)
-    requires { ⌜ at + 96 ≤ 480 ⌝ }
-{
-    text(b" ");
-    io::print_hex(STDOUT_FILENO, get(journal, at, 48), 12);
-    io::print_hex(STDOUT_FILENO, get(journal, at + 48, 48), 12);
-}
-
 // The figures of all eight places.
 pub fn places(figures: [Figures; 8]) {
-    place(0, figures[0]);
-    place(1, figures[1]);
-    place(2, figures[2]);
-    place(3, figures[3]);
-    place(4, figures[4]);
-    place(5, figures[5]);
-    place(6, figures[6]);
-    place(7, figures[7]);
+    for i in 0..8 {
+        place(i as u64, figures[i]);
+    }
 }
 
 // A place and its figures, unless all of them are 0.

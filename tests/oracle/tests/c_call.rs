@@ -12,7 +12,7 @@ const MARGIN: usize = 16;
 const LENGTHS: [usize; 5] = [0, 39, 40, 41, 64];
 const BUFFER: usize = MARGIN + 64 + MARGIN;
 
-#[link(name = "quarter", kind = "static")]
+#[link(name = "reactive", kind = "static")]
 extern "C" {
     fn reactive_classify(
         role: u32,
