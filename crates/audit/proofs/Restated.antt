@@ -1,14 +1,14 @@
 -- The totals restated: an entry more and an entry less each change one place of the machine's totals. Assumes nothing.
 use Prim.Native.Nat.{ℕ, suc, _+_, _-_, _^_, _≤_, _<_}
-use mathlib.Core.Path.{_≡_, refl, sym, ap, _∙_}
+use mathlib.Core.Path.{_≡_, sym, ap, _∙_}
 use mathlib.Core.List.{List, [], _∷_, _++_}
 use native.Mathlib.Omega.{arith}
-use lib.ListN.{length, getD}
+use lib.ListN.{length}
 use Rattle.quantity.specs.Quantity.{capped}
 use Rattle.month_file.specs.declared.point.Point.{Point}
 use Rattle.month_file.specs.declared.entry.Entry.{Entry}
 use Rattle.worth.specs.declared.Figures.{Figures}
-use Rattle.worth.specs.Figures.{Column, figure, each, nothing}
+use Rattle.worth.specs.Figures.{Column, figure, each}
 use Rattle.worth.proofs.Columns.{columns, each-column}
 use Rattle.machine.specs.Machine.{worthIn, totalOf, totalsOf}
 use Rattle.machine.proofs.Totals.{totals-get, totals-set, total-here, total-other}

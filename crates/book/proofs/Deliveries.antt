@@ -12,7 +12,7 @@ use Rattle.refusals.specs.Refusals.{first}
 use Rattle.refusals.proofs.First.{skip, stop, none-holds}
 use Rattle.month_file.specs.declared.entry.Entry.{Entry}
 use Rattle.month_file.specs.declared.entry.EntryAnswer.the-variants.{Read, Refused}
-use Rattle.month_file.specs.Entry.{decodedEntry, entryIn}
+use Rattle.month_file.specs.Entry.{decodedEntry}
 use Rattle.month_file.proofs.Readable.{entry-reads}
 use Rattle.answers.specs.declared.Answer.{Answer}
 use Rattle.answers.specs.declared.Answer.the-variants.{Accepted}

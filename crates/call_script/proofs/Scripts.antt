@@ -7,6 +7,7 @@ use native.Mathlib.Omega.{arith}
 use borrow.Author.Tests.{leb-true, leb-false, eqb-true, eqb-false, le-leb, lt-leb, eq-eqb, ne-eqb}
 use lib.Dec.{leb, eqb}
 use lib.ListN.{length, take, drop}
+use Rattle.bits.proofs.Parts.{part}
 use Rattle.machine.specs.Machine.{deliver, takeBack, close, change, totals}
 use Rattle.call_script.specs.Script.{byteAt, deliverySize, sizeAt, callAt, callsFrom}
 
@@ -48,9 +49,7 @@ module _ (script : List ℕ) (at : ℕ) where
   pub call-delivery : byteAt script at ≡ 0
       → change (deliver (take (at + 2 + byteAt script (at + 1) - (at + 2)) (drop (at + 2) script))) ≡ callAt script at
   unfolding callAt
-  call-delivery h =
-      let e : at + 2 + byteAt script (at + 1) - (at + 2) ≡ byteAt script (at + 1) = omega arith in
-      rw (e, eq-eqb (byteAt script at) 0 h)
+  call-delivery h = rw (part (at + 2) (byteAt script (at + 1)) script, eq-eqb (byteAt script at) 0 h)
 
   -- 1 takes back
   pub call-take-back : byteAt script at ≡ 1 → change takeBack ≡ callAt script at

@@ -8,7 +8,6 @@ use mathlib.Core.Bool.{false, false≢true}
 use mathlib.Core.List.{List, [], _∷_, List·Mem, eq-or-mem-of-mem-cons, not-mem-nil}
 use native.Mathlib.Omega.{arith}
 use lib.ListN.{length}
-use Rattle.refusals.specs.Refusals.{first}
 use Rattle.refusals.proofs.First.{listed, given-listed}
 use Rattle.machine.specs.Machine as machine
 use Rattle.machine.specs.Machine.{State, Change, deliver, takeBack, close, Call, change, totals, Answer, conditions, next, totalsIn}

@@ -28,7 +28,7 @@ use Rattle.audit.proofs.Placed.{entries-room}
 use Rattle.audit.proofs.Restated.{one-in, one-out}
 use Rattle.book.specs.declared.Book.{Book}
 use Rattle.book.specs.Library as library
-use Rattle.book.specs.Library.{Lent, withJournal, withLength, withTotals, withClosed, view, posted, unposted, outcome, accepted, called, after, totalsGiven, guards}
+use Rattle.book.specs.Library.{Lent, withJournal, withLength, withTotals, withClosed, view, posted, unposted, outcome, accepted, called, after}
 use Rattle.book.proofs.Numbers.{sound-number, called-number, sound-given}
 use Rattle.book.proofs.Sound.{Sound}
 

@@ -1,6 +1,5 @@
 -- `book::Book::deliver_entry` meets its contract. Assumes nothing.
-use mathlib.Core.Path.{_≡_, sym, ap, _∙_}
-use Rattle.answers.specs.Numbers.{numberOf}
+use mathlib.Core.Path.{sym, _∙_}
 use Rattle.answers.proofs.Refusing.{refused-number}
 use Rattle.audit.proofs.Placed.{read-range, read-size, placed, entries-room}
 use Rattle.book.specs.Library.{lent}

@@ -1,13 +1,11 @@
 -- `book::Book::take_back_sound` meets its contract. Assumes nothing.
-use mathlib.Core.Path.{refl, sym, ap, _∙_}
+use mathlib.Core.Path.{refl, sym, _∙_}
 use native.Mathlib.Omega.{arith}
-use Rattle.answers.specs.Numbers.{numberOf}
 use Rattle.answers.proofs.Refusing.{refused-number}
-use Rattle.audit.proofs.Placed.{read-range, placed, entries-room}
+use Rattle.audit.proofs.Placed.{read-range, placed}
 use Rattle.book.specs.Library.{lent}
 use Rattle.book.proofs.TakingBack.{Answered, is-refused, is-some, lies, is-read, is-unposted}
 use Rattle.book.proofs.Replies.{replied}
-use Rattle.book.proofs.Sound.{sound}
 use borrow.Author.Needs.{needs}
 use Rattle.book.proofs.Book.take_back_sound.Statement.{statement}
 use Rattle.book.proofs.Book.take_back_sound.Tie as tie
