@@ -4,5 +4,5 @@ mod Found
 pub mod OneEntry
 pub mod Placed
 pub mod Places
-pub mod Restated
+pub mod OnePlace
 pub mod Summing

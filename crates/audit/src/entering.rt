@@ -45,36 +45,23 @@ pub fn supersedes(version: u8, standing: StandingEntry) -> bool
     }
 }
 
-// The totals with one more entry: it comes in, and the one that stood for its point and quarter goes out.
-pub fn entered(
+// The totals with one entry's figures added to those of a point, and another's taken away: the one that
+// stands now comes in, and the one that stood before goes out.
+pub fn restated(
     points: [Point; 8],
     totals: [Figures; 8],
-    entry: Entry,
-    standing: StandingEntry,
+    point: u8,
+    incoming: StandingEntry,
+    outgoing: StandingEntry,
 ) -> [Figures; 8]
-    requires { ⌜ entry .point < 8 ⌝ }
-    requires { ⌜ Placed standing ⌝ }
-    ensures { λ r. ⌜ r ≡ exchangedAt totals (entry .point) (worthAmong points entry) (worthStanding points standing) ⌝ }
+    requires { ⌜ point < 8 ⌝ }
+    requires { ⌜ Placed incoming ⌝ }
+    requires { ⌜ Placed outgoing ⌝ }
+    ensures { λ r. ⌜ r ≡ exchangedAt totals point (worthStanding points incoming) (worthStanding points outgoing) ⌝ }
 {
-    let incoming = worth_in(points, entry);
-    let outgoing = worth_standing(points, standing);
-    exchange(totals, entry.point, incoming, outgoing)
-}
-
-// The totals with an entry less: it goes out, and the one that stood before it comes in again.
-pub fn withdrawn(
-    points: [Point; 8],
-    totals: [Figures; 8],
-    entry: Entry,
-    standing: StandingEntry,
-) -> [Figures; 8]
-    requires { ⌜ entry .point < 8 ⌝ }
-    requires { ⌜ Placed standing ⌝ }
-    ensures { λ r. ⌜ r ≡ exchangedAt totals (entry .point) (worthStanding points standing) (worthAmong points entry) ⌝ }
-{
-    let restored = worth_standing(points, standing);
-    let dropped = worth_in(points, entry);
-    exchange(totals, entry.point, restored, dropped)
+    let added = worth_standing(points, incoming);
+    let removed = worth_standing(points, outgoing);
+    exchange(totals, point, added, removed)
 }
 
 // What an entry is worth to its point.

@@ -7,11 +7,10 @@ mod ranges;
 mod walk;
 
 pub use comparing::are_equal;
-pub use entering::entered;
 pub use entering::is_outside;
+pub use entering::restated;
 pub use entering::standing_among;
 pub use entering::supersedes;
-pub use entering::withdrawn;
 use month_file::Point;
 pub use walk::capacity;
 pub use walk::summed_afresh;

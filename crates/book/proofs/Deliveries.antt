@@ -19,6 +19,7 @@ use Rattle.answers.specs.declared.Answer.the-variants.{Accepted}
 use Rattle.answers.specs.Numbers.{numberOf}
 use Rattle.machine.specs.Machine.{deliver, capacityOf, outside, full, conditions}
 use Rattle.journal.specs.declared.StandingEntry.{StandingEntry}
+use Rattle.journal.specs.declared.StandingEntry.the-variants.{Found}
 use Rattle.journal.specs.Journal.{standingPlace}
 use Rattle.journal.specs.Found.{foundAt}
 use Rattle.journal.proofs.Entries.{length-entries}
@@ -29,7 +30,7 @@ use Rattle.audit.proofs.Placed.{one-room}
 use Rattle.book.specs.declared.Book.{Book}
 use Rattle.book.specs.declared.Reply.{Reply}
 use Rattle.book.specs.Library.{Lent, lent, view, unsound, withLength, withTotals, posted, outcome, called}
-use Rattle.book.specs.Steps.{reply, enteredHeld}
+use Rattle.book.specs.Steps.{reply, restatedHeld}
 use Rattle.book.proofs.Numbers.{sound-refused, sound-accepted}
 use Rattle.book.proofs.Replies.{replied}
 use Rattle.book.proofs.Sound.{sound}
@@ -98,7 +99,7 @@ module _ {b : Book} {l : Lent} {bytes : List ℕ} {e : Entry} {stands : Standing
 
     -- the entry is posted
     pub is-posted : {after : List ℕ} {r : Reply} → after ≡ paste (l .journal) (12 * b .length) bytes 12
-        → r ≡ reply (enteredHeld b e stands) Accepted → outcome (numberOf (r .answer)) (r .book) (lent after) ≡ called b l (deliver bytes)
+        → r ≡ reply (restatedHeld b (e .point) (Found e) stands (b .length + 1)) Accepted → outcome (numberOf (r .answer)) (r .book) (lent after) ≡ called b l (deliver bytes)
     unfolding posted
     is-posted ea er =
         let s = sound b l (k .given .lawful) in

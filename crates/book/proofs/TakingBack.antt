@@ -19,6 +19,7 @@ use Rattle.answers.specs.declared.Answer.the-variants.{Accepted}
 use Rattle.answers.specs.Numbers.{numberOf}
 use Rattle.machine.specs.Machine.{takeBack, empty, conditions}
 use Rattle.journal.specs.declared.StandingEntry.{StandingEntry}
+use Rattle.journal.specs.declared.StandingEntry.the-variants.{Found}
 use Rattle.journal.specs.Journal.{bytesAt, entries, standingPlace}
 use Rattle.journal.specs.Found.{foundAt}
 use Rattle.journal.proofs.Entries.{length-entries}
@@ -30,7 +31,7 @@ use Rattle.machine.specs.Machine.{totalsOf}
 use Rattle.book.specs.declared.Book.{Book}
 use Rattle.book.specs.declared.Reply.{Reply}
 use Rattle.book.specs.Library.{Lent, lent, view, unsound, withLength, withTotals, unposted, outcome, called}
-use Rattle.book.specs.Steps.{reply, withdrawnHeld}
+use Rattle.book.specs.Steps.{reply, restatedHeld}
 use Rattle.book.proofs.Numbers.{sound-refused, sound-accepted}
 use Rattle.book.proofs.Replies.{replied}
 use Rattle.book.proofs.Sound.{sound}
@@ -82,7 +83,7 @@ module _ {b : Book} {l : Lent} {a : Answer} (k : Answered b l a) where
     pub is-unposted : {e : Entry} {stands : StandingEntry} {after : List ℕ} {r : Reply} → decodedEntry (bytesAt (b .length - 1) (l .journal)) ≡ Read e
         → stands ≡ foundAt (standingPlace (e .point) (e .quarter) (b .length - 1) (l .journal)) (l .journal)
         → after ≡ paste (l .journal) (12 * (b .length - 1)) (replicate 12 0) 12
-        → r ≡ reply (withdrawnHeld b e stands) Accepted
+        → r ≡ reply (restatedHeld b (e .point) stands (Found e) (b .length - 1)) Accepted
         → outcome (numberOf (r .answer)) (r .book) (lent after) ≡ called b l takeBack
     unfolding unposted
     is-unposted read looked ea er =

@@ -25,7 +25,7 @@ use Rattle.audit.specs.Audit.{frameOf, stopped, stoppedAt, anyStopped}
 use Rattle.audit.specs.Restating.{restated}
 use Rattle.audit.proofs.Fitting.{inside, points-most, passes}
 use Rattle.audit.proofs.Placed.{entries-room}
-use Rattle.audit.proofs.Restated.{one-in, one-out}
+use Rattle.audit.proofs.OnePlace.{one-in, one-out}
 use Rattle.book.specs.declared.Book.{Book}
 use Rattle.book.specs.Library as library
 use Rattle.book.specs.Library.{Lent, withJournal, withLength, withTotals, withClosed, view, posted, unposted, outcome, accepted, called, after}

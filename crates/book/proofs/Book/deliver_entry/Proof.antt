@@ -1,7 +1,8 @@
 -- `book::Book::deliver_entry` meets its contract. Assumes nothing.
 use mathlib.Core.Path.{sym, _∙_}
+use native.Mathlib.Omega.{arith}
 use Rattle.answers.proofs.Refusing.{refused-number}
-use Rattle.audit.proofs.Placed.{read-range, read-size, placed, entries-room}
+use Rattle.audit.proofs.Placed.{read-range, read-size, placed, placed-read, entries-room}
 use Rattle.book.specs.Library.{lent}
 use Rattle.book.proofs.Deliveries.{Given, Answered, is-out, is-refused, has-room, counts, is-posted}
 use Rattle.book.proofs.Replies.{replied}
@@ -84,11 +85,10 @@ write-at-requires c κs =
     let s = answered k .given in
     (has-room (answered k) (told .enum-told .given .1), read-size _ _ (s .read))
 
-entered-requires : tie.Need-entered-requires
-entered-requires c κs =
+add-longer : tie.Need-add-longer
+add-longer c =
     let told = c .before .before .before .before in
-    let k = answered (told .before .before) in
-    (counts k (told .enum-told .given .1), (read-range _ _ (k .given .read) .point, placed _ _ _ (k .looked)))
+    record { fits = omega (arith, counts (answered (told .before .before)) (told .enum-told .given .1)) }
 
 same-length-2 : tie.Need-same-length-2
 same-length-2 c = search needs
@@ -97,7 +97,14 @@ returns-3 : tie.Need-returns-3
 returns-3 c =
     let written = c .before .before .before in
     let told = written .before .before in
-    is-posted (answered (told .before .before)) (told .enum-told .given .1) (written .write-at .ensures) (c .entered .ensures)
+    is-posted (answered (told .before .before)) (told .enum-told .given .1) (written .write-at .ensures) (c .restated .ensures)
+
+restated-requires : tie.Need-restated-requires
+restated-requires c κs =
+    let told = c .before .before .before .before in
+    let k = answered (told .before .before) in
+    let r = read-range _ _ (k .given .read) in
+    (r .point, (placed-read _ r, placed _ _ _ (k .looked)))
 
 pub deliver-entry-spec : {M : Type 1} → statement M
 deliver-entry-spec =
@@ -115,6 +122,7 @@ deliver-entry-spec =
     same-length
     returns-2
     write-at-requires
-    entered-requires
+    add-longer
+    restated-requires
     same-length-2
     returns-3)

@@ -2,7 +2,7 @@
 use mathlib.Core.Path.{refl, sym, _∙_}
 use native.Mathlib.Omega.{arith}
 use Rattle.answers.proofs.Refusing.{refused-number}
-use Rattle.audit.proofs.Placed.{read-range, placed}
+use Rattle.audit.proofs.Placed.{read-range, placed, placed-read}
 use Rattle.book.specs.Library.{lent}
 use Rattle.book.proofs.TakingBack.{Answered, is-refused, is-some, lies, is-read, is-unposted}
 use Rattle.book.proofs.Replies.{replied}
@@ -74,16 +74,6 @@ write-at-requires c κs =
     let told = c .before .before .before .before .before .before .before .before .before in
     (lies (answered (told .before .before)) (told .enum-told .given .1), refl)
 
-withdrawn-requires : tie.Need-withdrawn-requires
-withdrawn-requires c κs =
-    let stands = c .before .before .before .before .before in
-    let known = stands .before .before .before in
-    let read = known .before .before in
-    let told = read .before .before in (
-      is-some (answered (told .before .before)) (told .enum-told .given .1),
-      (read-range _ _ (sym (read .entry-at .ensures) ∙ known .entry .given .1) .point, placed _ _ _ (stands .standing-among .ensures)),
-    )
-
 same-length-2 : tie.Need-same-length-2
 same-length-2 c = search needs
 
@@ -95,7 +85,15 @@ returns-3 c =
     let read = known .before .before in
     let told = read .before .before in
     is-unposted (answered (told .before .before)) (told .enum-told .given .1) (sym (read .entry-at .ensures) ∙ known .entry .given .1)
-    (stands .standing-among .ensures) (written .write-at .ensures) (c .withdrawn .ensures)
+    (stands .standing-among .ensures) (written .write-at .ensures) (c .restated .ensures)
+
+restated-requires : tie.Need-restated-requires
+restated-requires c κs =
+    let stands = c .before .before .before .before .before in
+    let known = stands .before .before .before in
+    let read = known .before .before in
+    let r = read-range _ _ (sym (read .entry-at .ensures) ∙ known .entry .given .1) in
+    (r .point, (placed _ _ _ (stands .standing-among .ensures), placed-read _ r))
 
 pub take-back-sound-spec : {M : Type 1} → statement M
 take-back-sound-spec =
@@ -115,6 +113,6 @@ take-back-sound-spec =
     standing-among-requires
     slice-aggregate-write-at
     write-at-requires
-    withdrawn-requires
+    restated-requires
     same-length-2
     returns-3)
