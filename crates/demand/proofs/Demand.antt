@@ -1,21 +1,26 @@
--- Demand 3, for every file that open accepts, whatever is lent and every list of calls; and that none of these calls is answered by 7.
+-- Demand 3, for every file that open accepts, whatever is lent and every list of calls.
 -- Assumes nothing.
-use Prim.Native.Nat.{ℕ}
+use Prim.Native.Nat.{ℕ, _≤_, _<_}
 use mathlib.Core.Path.{_≡_, refl, sym, ap, ap₂, _∙_, subst}
 use mathlib.Core.HLevel.{⊥-prop}
 use mathlib.Core.Logic.{Or·elim}
 use mathlib.Core.Bool.{false, false≢true}
 use mathlib.Core.List.{List, [], _∷_, List·Mem, eq-or-mem-of-mem-cons, not-mem-nil}
 use native.Mathlib.Omega.{arith}
-use lib.ListN.{length}
+use lib.ListN.{length, getD}
 use Rattle.refusals.proofs.First.{listed, given-listed}
+use Rattle.worth.specs.declared.Figures.{Figures}
+use Rattle.worth.specs.Figures.{nothing}
 use Rattle.machine.specs.Machine as machine
-use Rattle.machine.specs.Machine.{State, Change, deliver, takeBack, close, Call, change, totals, Answer, conditions, next, totalsIn}
+use Rattle.machine.specs.Machine.{Frame, State, Change, deliver, takeBack, close, Call, change, totals, Answer, conditions, next, totalsIn}
+use Rattle.machine.proofs.Frames.{run-frame}
+use Rattle.machine.proofs.Totals.{totals-get, total-energy, conserved-totals}
+use Rattle.audit.proofs.Fitting.{points-most}
 use Rattle.book.specs.declared.Book.{Book}
 use Rattle.book.specs.Library as library
 use Rattle.book.specs.Library.{Lent, after}
 use Rattle.opening.specs.Opening.{openingNumber, openedBook}
-use Rattle.demand.specs.Demand.{beside, Demand3}
+use Rattle.demand.specs.Demand.{beside, standingEnergy, Conserved, Demand3}
 use Rattle.demand.proofs.OneCall.{Stands, stays, answers-alike}
 use Rattle.demand.proofs.FreshBook.{opened}
 
@@ -42,13 +47,6 @@ unfolding library.run machine.run
 same-end r [] = r
 same-end r (c ∷ cs) = same-end (moved r c) cs
 
--- demand 3
-pub demand-3 : (file : List ℕ) (l : Lent) (calls : List Call) → openingNumber file ≡ 0 → Demand3 file l calls
-demand-3 file l calls h =
-    let r = opened file h l in
-    let e = same-end r calls in
-    record { answered = same-answers r calls; stored = e .sound .totals ∙ ap totalsIn (e .state) }
-
 -- The machine "passes over 7, which no call of such a list gets".
 
 -- 7 is none of a call's own numbers
@@ -72,8 +70,33 @@ none-7 s (c ∷ cs) a m h =
     (λ e. machine-never-7 s c (ap (λ (x : Answer). x .number) (sym e) ∙ h))
     (λ n. none-7 (next s c) cs a n h)
 
--- nor does one from the library
-pub never-7 : (file : List ℕ) (l : Lent) (calls : List Call) → openingNumber file ≡ 0
-    → (a : Answer) → List·Mem a (library.answers (openedBook file) l calls) → a .number ≡ 7 → ⊥
-never-7 file l calls h a m e =
-    none-7 (beside file (length (l .journal))) calls a (subst (List·Mem a) (demand-3 file l calls h .answered) m) e
+-- The totals at a point are conserved.
+
+-- those of the machine, which has at most eight points
+conserved-in : (s : State) (p : ℕ) → p < length (s .frame .points) → length (s .frame .points) ≤ 8
+    → Conserved (getD (totalsIn s) p nothing) (standingEnergy s p)
+conserved-in s p inside most =
+    let ps = s .frame .points in
+    let l = s .entries in
+    subst (λ (f : Figures). Conserved f (standingEnergy s p)) (sym (totals-get ps p inside most l))
+    (record { shares = conserved-totals ps l p; standing = total-energy ps l p })
+
+-- demand 3
+pub demand-3 : (file : List ℕ) (l : Lent) (calls : List Call) → openingNumber file ≡ 0 → Demand3 file l calls
+demand-3 file l calls h =
+    let r = opened file h l in
+    let e = same-end r calls in
+    let end = machine.run (beside file (length (l .journal))) calls in
+    let same = same-answers r calls in
+    let stored = e .sound .totals ∙ ap totalsIn (e .state) in
+    let kept = ap (λ (f : Frame). length (f .points)) (run-frame (beside file (length (l .journal))) calls) in
+    let most = subst (λ (s : State). length (s .frame .points) ≤ 8) (e .state) (points-most (e .sound .ranged)) in
+    record {
+      answered = same;
+      stored = stored;
+      never-7 = λ a m. none-7 (beside file (length (l .journal))) calls a (subst (List·Mem a) same m);
+      conserved =
+          λ p inside.
+          subst (λ (ts : List Figures). Conserved (getD ts p nothing) (standingEnergy end p)) (sym stored)
+          (conserved-in end p (omega arith) most);
+    }

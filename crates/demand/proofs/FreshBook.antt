@@ -7,6 +7,7 @@ use native.Mathlib.Omega.{arith}
 use borrow.Author.Tests.{le-leb}
 use lib.ListN.{length, take, replicate}
 use lib.Seq.{take-at}
+use Rattle.refusals.specs.Refusals.{first}
 use Rattle.refusals.proofs.First.{decided, stop}
 use Rattle.lists.specs.Lists.{allOf, anyBelow, placesBelow}
 use Rattle.lists.proofs.Laws.{none-at, all-places}
@@ -16,17 +17,19 @@ use Rattle.month_file.specs.Header.{headerInRange}
 use Rattle.month_file.specs.Point.{pointIn, pointInRange, wrongPoint, noPoint}
 use Rattle.month_file.proofs.Headers.{in-range}
 use Rattle.month_file.proofs.Readable.{header-reads, point-reads}
-use Rattle.machine.specs.Machine.{Change, fresh, conditions}
+use Rattle.machine.specs.Machine.{change, totals, fresh, conditions}
 use Rattle.machine.proofs.Totals.{totals-nothing}
 use Rattle.journal.specs.Journal.{entries}
 use Rattle.audit.specs.Audit as audit
 use Rattle.audit.specs.Audit.{frameOf, unlawful}
 use Rattle.book.specs.declared.Book.{Book}
-use Rattle.book.specs.Library.{Lent, view, unsound, guards, number}
+use Rattle.book.specs.Library.{Lent, view, unsound, guards, number, totalsGiven}
+use Rattle.book.proofs.Numbers.{called-number}
 use Rattle.opening.specs.Opening.{headerBytes, pointBytes, header, points, firstPoints, anyWrong, openingNumber, masterOf, padded}
 use Rattle.opening.specs.Opening.{void, freshOf, openedBook}
 use Rattle.opening.proofs.Accepted.{openable, opened-fresh}
 use Rattle.opening.proofs.Reading.{length-points}
+use Rattle.demand.specs.Demand.{VoidBook}
 use Rattle.demand.proofs.OneCall.{Stands}
 
 -- the points of a file are in range, if 4 stops none of them
@@ -74,7 +77,12 @@ pub void-unsound : (l : Lent) → unsound void l ≡ true
 unfolding void unsound unlawful audit.wrongMonth headerInRange
 void-unsound l = refl
 
+-- so 7 comes before each call's own numbers
+pub void-guarded : (l : Lent) → first (guards void l) ≡ 7
+void-guarded l = stop 7 0 (void-unsound l)
+
 -- "so that 7 meets each call on it"
-pub void-number : (l : Lent) (c : Change) → number void l c ≡ 7
-unfolding number
-void-number l c = decided (guards void l) (conditions (view void l) c) 7 (omega arith) (stop 7 0 (void-unsound l))
+pub void-book : VoidBook
+unfolding number totalsGiven
+void-book l (change c) = called-number void l c ∙ decided (guards void l) (conditions (view void l) c) 7 (omega arith) (void-guarded l)
+void-book l totals = rw (void-guarded l)
