@@ -15,13 +15,16 @@ use Rattle.month_file.specs.Header.{headerInRange, encodedHeader}
 use Rattle.month_file.specs.Point.{pointInRange}
 use Rattle.month_file.proofs.Overwriting.{header-overwriting}
 use Rattle.machine.specs.Machine.{capacityOf}
+use Rattle.answers.specs.declared.Answer.{Answer}
+use Rattle.answers.specs.Numbers.{numberOf}
 use Rattle.audit.specs.Audit.{frameOf, monthOf, wrongMonth, wrongPoint}
 use Rattle.audit.proofs.Fitting.{count-most}
 use Rattle.audit.proofs.Placed.{entries-room}
 use Rattle.book.specs.declared.Book.{Book}
 use Rattle.book.specs.Library.{Lent, guards}
 use Rattle.book.proofs.Sound.{Sound}
-use Rattle.writing.specs.Writing.{headerOf, writtenHeader, writtenPoints, fileOf, fileLength, writeNumber, writeResult, writing}
+use Rattle.writing.specs.declared.Written.{Written}
+use Rattle.writing.specs.Writing.{headerOf, writtenHeader, writtenPoints, fileOf, fileLength, writeNumber, WriteResult, writeResult, writeGiven, refusedWith, writing}
 use Rattle.writing.proofs.Filled.{returned, length-part, part-filled, length-filled}
 use Rattle.writing.proofs.PointsWritten.{length-points}
 
@@ -59,6 +62,22 @@ points-counted {b} w eight = length-take-le (b .master .count) (b .master .point
 -- and its file the bytes of as many entries
 pub entries-held : {b : Book} {l : Lent} → Writable b l → length (take (12 * b .length) (l .journal)) ≡ 12 * b .length
 entries-held {b} {l} w = length-take-le (12 * b .length) (l .journal) (w .held)
+
+-- the file has its length
+pub file-sized : {b : Book} {l : Lent} → Writable b l → length (b .master .points) ≡ 8 → length (fileOf b l) ≡ fileLength b
+unfolding fileOf fileLength writtenHeader
+file-sized {b} {l} w eight =
+    let ps = frameOf (b .master) .points in
+    let front = writtenHeader (headerOf b) ++ writtenPoints ps in
+    length-append front (take (12 * b .length) (l .journal))
+    ∙ omega (
+      arith,
+      length-append (writtenHeader (headerOf b)) (writtenPoints ps),
+      header-overwriting .sized (headerOf b),
+      length-points ps,
+      points-counted w eight,
+      entries-held w,
+    )
 
 -- a part that all of a list of its length is copied into is that list
 copied-all : (s part ys : List ℕ) (n : ℕ) → length s ≡ n → length part ≡ n → ys ≡ take (length s) s ++ drop (length s) part → ys ≡ s
@@ -146,6 +165,11 @@ module _ {b : Book} {l : Lent} (w : Writable b l) (out : List ℕ) (room : fileL
     file-written es entries =
         part-filled out pointed front begin points-written length-front end es (omega arith)
         ∙ ap (λ (bs : List ℕ). (front ++ bs) ++ drop end out) (copied-all _ _ es (12 * b .length) (entries-held w) entries-part entries)
+
+-- a refusal handed back
+pub refused-with : {r : Written} {a : Answer} {out : List ℕ} {w : WriteResult} → r ≡ refusedWith a → writeResult (numberOf a) 0 out ≡ w
+    → writeGiven r out ≡ w
+refused-with {out = out} e h = ap (λ (r : Written). writeGiven r out) e ∙ h
 
 -- What write answers.
 module _ (b : Book) (l : Lent) (out : List ℕ) where

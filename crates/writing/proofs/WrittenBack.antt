@@ -1,11 +1,12 @@
--- Posting the file of a sound book gives an open book with the same month, points, L and totals. Assumes nothing.
+-- Write accepts a sound book, and posting the file that it wrote gives an open book with the same month, points, L and totals. Assumes nothing.
 use Prim.Native.Nat.{ℕ, _*_, _≤_, _<_}
-use mathlib.Core.Path.{_≡_, refl, sym, ap, ap₂, _∙_}
+use mathlib.Core.Path.{_≡_, refl, sym, ap, ap₂, subst, _∙_}
 use mathlib.Core.Bool.{false}
 use mathlib.Core.List.{List}
 use native.Mathlib.Omega.{arith}
 use borrow.Author.Tests.{lt-leb}
-use lib.ListN.{length, take}
+use lib.ListN.{length, take, drop}
+use lib.Seq.{take-at}
 use Rattle.refusals.specs.Refusals.{first}
 use Rattle.refusals.proofs.First.{all-passed}
 use Rattle.month_file.specs.declared.header.Header.{Header}
@@ -17,15 +18,15 @@ use Rattle.journal.proofs.Entries.{length-entries, bytesAt-take, entries-take}
 use Rattle.audit.specs.Audit.{frameOf}
 use Rattle.audit.proofs.Fitting.{Passes, passes-at}
 use Rattle.book.specs.declared.Book.{Book}
-use Rattle.book.specs.Library.{Lent, view, number}
+use Rattle.book.specs.Library.{Lent, view, guards, number}
 use Rattle.book.proofs.Numbers.{sound-number}
 use Rattle.book.proofs.Sound.{Sound, sound}
 use Rattle.opening.specs.Opening.{header, points, openingNumber}
 use Rattle.opening.proofs.Accepted.{accepted}
 use Rattle.posting.specs.Posting.{entriesOf, entryBytes, posting}
-use Rattle.writing.specs.RoundTrip.{Same, WrittenPostsBack}
-use Rattle.writing.specs.Writing.{headerOf, fileOf}
-use Rattle.writing.proofs.FileWritten.{Writable, writable, points-counted, entries-held}
+use Rattle.writing.specs.RoundTrip.{Same, WrittenBack, WrittenPostsBack}
+use Rattle.writing.specs.Writing.{headerOf, fileOf, fileLength}
+use Rattle.writing.proofs.FileWritten.{Writable, writable, points-counted, entries-held, file-sized, written}
 use Rattle.writing.proofs.InFull.{after, Holds, in-full, number-zero}
 use Rattle.writing.proofs.Parts.{rest, entry-bytes}
 use Rattle.writing.proofs.WrittenFiles.{header-is, points-are, rest-is, written-opens}
@@ -133,6 +134,16 @@ module _ (b : Book) (l : Lent) (eight : length (b .master .points) ≡ 8) (s : S
           totals = in-full file k all-posted .1 .stands .sound .totals ∙ ap totalsIn end ∙ sym (s .totals);
         }
 
--- "Posting that file into a journal that holds L .. gives an open book with the same month, points, L and totals."
+-- write accepts, and posting what it wrote gives "an open book with the same month, points, L and totals"
 pub written-posts-back : WrittenPostsBack
-written-posts-back b l k eight u holds = posts-back b l eight (sound b l u) k holds
+written-posts-back b l k out eight u room holds =
+    let s = sound b l u in
+    let size = file-sized (writable s) eight in
+    subst (WrittenBack b l k) (written b l out (all-passed (guards b l) (u, tt)) room _ refl)
+    (record {
+      accepted = refl;
+      sized = sym size;
+      back =
+          subst (λ (f : List ℕ). Same (posting f k) b l) (sym (take-at (fileOf b l) (drop (fileLength b) out) (fileLength b) size))
+          (posts-back b l eight s k holds);
+    })

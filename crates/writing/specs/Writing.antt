@@ -10,6 +10,7 @@ use Rattle.month_file.specs.declared.header.Header.{Header}
 use Rattle.month_file.specs.declared.point.Point.{Point}
 use Rattle.month_file.specs.Header.{encodedHeader}
 use Rattle.month_file.specs.Point.{encodedPoint}
+use Rattle.answers.specs.declared.Answer.{Answer}
 use Rattle.answers.specs.Numbers.{numberOf}
 use Rattle.audit.specs.Audit.{frameOf}
 use Rattle.book.specs.declared.Book.{Book}
@@ -50,6 +51,10 @@ writeResult n k out = record { number = n; length = k; output = out }
 
 abbrev pub writeGiven : Written → List ℕ → WriteResult
 writeGiven r out = writeResult (numberOf (r .answer)) (r .length) out
+
+-- "beside a refusal's number every other figure given is 0"
+abbrev pub refusedWith : Answer → Written
+refusedWith a = record { answer = a; length = 0 }
 
 -- "A refused call changes neither book nor buffer", and "beside a refusal's number every other figure given is 0"
 unfoldable pub writing : Book → Lent → List ℕ → WriteResult

@@ -14,7 +14,7 @@ ghost use lib.ListN.{length, take, drop};
 ghost use Rattle.lists.specs.Lists.{allOf};
 ghost use Rattle.month_file.specs.Point.{pointInRange};
 ghost use Rattle.book.specs.Library.{lent, unsound};
-ghost use Rattle.writing.specs.Writing.{writtenPoints, fileOf, fileLength, writeGiven, writing};
+ghost use Rattle.writing.specs.Writing.{writtenPoints, fileOf, fileLength, writeGiven, refusedWith, writing};
 
 // What writing a book gives: the answer, and the length of the file, 0 beside a refusal.
 pub struct Written {
@@ -28,24 +28,25 @@ pub fn write(book: Book, journal: &[u8], output: &mut [u8]) -> Written
 {
     let verdict = judge(book, journal);
     let Answer::Accepted = verdict else {
-        return Written {
-            answer: verdict,
-            length: 0,
-        };
+        return refused(verdict);
     };
     let count = book.master.count as usize;
     let length = 7 + 21 * count + 12 * book.length;
     if output.len() < length {
-        return Written {
-            answer: Answer::ShortOutput,
-            length: 0,
-        };
+        return refused(Answer::ShortOutput);
     }
     write_file(book, journal, output);
     Written {
         answer: Answer::Accepted,
         length,
     }
+}
+
+// A refusal, with no length beside it.
+fn refused(answer: Answer) -> Written
+    ensures { λ r. ⌜ r ≡ refusedWith answer ⌝ }
+{
+    Written { answer, length: 0 }
 }
 
 // Writes header, points and entries. Each has a part of the output to itself and fills it, so that no

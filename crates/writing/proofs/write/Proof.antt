@@ -7,7 +7,7 @@ use Rattle.answers.proofs.Refusing.{refused-number}
 use Rattle.book.proofs.Numbers.{guarded}
 use Rattle.book.proofs.Sound.{sound}
 use Rattle.writing.specs.Writing.{fileLength}
-use Rattle.writing.proofs.FileWritten.{writable, guard-answered, thirteen, written}
+use Rattle.writing.proofs.FileWritten.{writable, guard-answered, refused-with, thirteen, written}
 use Rattle.writing.proofs.write.Statement.{statement}
 use Rattle.writing.proofs.write.Tie as tie
 
@@ -17,10 +17,14 @@ judge-requires c κs = search needs
 enum-told : tie.Need-enum-told
 enum-told c = search needs
 
+refused-requires : tie.Need-refused-requires
+refused-requires c κs = search needs
+
 returns : tie.Need-returns
 returns c =
-    let j = c .before .judge in
-    guard-answered _ _ _ _ (refused-number (j .result) (c .match .keys2)) (j .ensures)
+    let q = c .before in
+    let j = q .before .judge in
+    refused-with (c .refused .ensures) (guard-answered _ _ _ _ (refused-number (j .result) (q .match .keys2)) (j .ensures))
 
 cast-count : tie.Need-cast-count
 cast-count c = search needs
@@ -45,12 +49,15 @@ add-length-2 c =
     let w = writable (sound _ _ (guarded _ _ none)) in
     omega arith
 
+refused-requires-2 : tie.Need-refused-requires-2
+refused-requires-2 c κs = search needs
+
 returns-2 : tie.Need-returns-2
 unfolding fileLength
 returns-2 c =
-    let told = c .before .before .before in
+    let told = c .before .before .before .before in
     let none = sym (told .before .before .judge .ensures) ∙ ap numberOf (told .enum-told .given .1) in
-    thirteen _ _ _ none (omega arith)
+    refused-with (c .refused2 .ensures) (thirteen _ _ _ none (omega arith))
 
 write-file-requires : tie.Need-write-file-requires
 unfolding fileLength
@@ -76,12 +83,14 @@ write-spec =
     (tie.spec
     judge-requires
     enum-told
+    refused-requires
     returns
     cast-count
     mul-length
     add-length
     mul-length-2
     add-length-2
+    refused-requires-2
     returns-2
     write-file-requires
     same-length
