@@ -1,25 +1,30 @@
-// The statement of a month file, as figures.
+// What the program prints: the statement of a month file, or its refusal.
 use book::Book;
 use calendar::quarters_of_month;
 use posting::post;
 use statement_lines::lines_of;
 use statement_text::Line;
+use statement_text::Page;
 use statement_text::Statement;
+use statement_text::text_of;
 ghost use mathlib.Core.Path.{_≡_};
-ghost use Rattle.book.specs.Library.{lent};
-ghost use Rattle.report.specs.Statement.{refusedBy, reported, statement};
+ghost use Prim.Native.Nat.{_≤_};
+ghost use lib.ListN.{length};
+ghost use Rattle.report.specs.Statement.{printed, refusedBy, reported};
 
-// Posts what was read from standard input into the journal, and gives the figures of its statement.
-pub fn statement_of(input: &[u8], journal: &mut [u8]) -> Statement
-    ensures { λ r. ⌜ (r, lent (now (journal .exit))) ≡ statement (now (input .entry)) (lent (now (journal .entry))) ⌝ }
+// Posts what was read from standard input, and gives the page that is printed for it.
+pub fn printed(input: &[u8]) -> Page
+    ensures { λ r. ⌜ r ≡ printed (now (input .entry)) ⌝ }
+    ensures { λ r. ⌜ r .length ≤ length (r .bytes) ⌝ }
 {
     if input.len() > 65_536 {
-        return refused(12);
+        return text_of(refused(12));
     }
-    let posted = post(input, journal);
+    let mut journal = [0u8; 65_532];
+    let posted = post(input, &mut journal);
     let answer = posted.answer;
     let book = posted.book;
-    report(answer.number(), book)
+    text_of(report(answer.number(), book))
 }
 
 // What posting answered: a refusal, or the figures of the book.

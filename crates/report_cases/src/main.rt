@@ -10,8 +10,7 @@ use files::EXAMPLE;
 use files::HALF_RAPPEN;
 use files::LARGEST_HEAD;
 use libc::STDOUT_FILENO;
-use report::statement_of;
-use statement_text::text_of;
+use report::printed;
 
 fn main() {
     show(b"example", &EXAMPLE);
@@ -26,8 +25,7 @@ fn main() {
 
 // The statement of a file.
 fn show(label: &[u8], file: &[u8]) {
-    let mut journal = [0u8; 65_532];
-    let page = text_of(statement_of(file, &mut journal));
+    let page = printed(file);
     let bytes = page.bytes;
     let length = page.length;
     io::write_all(STDOUT_FILENO, label);

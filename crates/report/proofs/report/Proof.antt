@@ -1,6 +1,6 @@
 -- `report::report` meets its contract. Assumes nothing.
 use native.Mathlib.Omega.{arith}
-use Rattle.report.proofs.Printed.{turned-down, in-full}
+use Rattle.report.proofs.Reporting.{turned-down, in-full}
 use Rattle.report.proofs.report.Statement.{statement}
 use Rattle.report.proofs.report.Tie as tie
 

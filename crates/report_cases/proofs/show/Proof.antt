@@ -5,14 +5,8 @@ use borrow.Author.Needs.{needs}
 use Rattle.report_cases.proofs.show.Statement.{statement}
 use Rattle.report_cases.proofs.show.Tie as tie
 
-slice-aggregate-statement-of : tie.Need-slice-aggregate-statement-of
-slice-aggregate-statement-of c = search needs
-
-statement-of-requires : tie.Need-statement-of-requires
-statement-of-requires c κs = search needs
-
-text-of-requires : tie.Need-text-of-requires
-text-of-requires c κs = search needs
+printed-requires : tie.Need-printed-requires
+printed-requires c κs = search needs
 
 write-all-requires : tie.Need-write-all-requires
 write-all-requires c κs = search needs
@@ -27,7 +21,7 @@ array-share-prefix-bytes : tie.Need-array-share-prefix-bytes
 array-share-prefix-bytes c = search needs
 
 slice-aggregate-write-all-2 : tie.Need-slice-aggregate-write-all-2
-slice-aggregate-write-all-2 c = sym (length-take-le _ _ (c .before .before .before .before .before .text-of .ensures .1))
+slice-aggregate-write-all-2 c = sym (length-take-le _ _ (c .before .before .before .before .before .printed .ensures .1))
 
 write-all-requires-3 : tie.Need-write-all-requires-3
 write-all-requires-3 c κs = search needs
@@ -39,9 +33,7 @@ pub show-spec : {M : Type 1} → statement M
 show-spec =
     tie.close
     (tie.spec
-    slice-aggregate-statement-of
-    statement-of-requires
-    text-of-requires
+    printed-requires
     write-all-requires
     slice-aggregate-write-all
     write-all-requires-2

@@ -14,23 +14,17 @@ read-full-requires c κs = search needs
 array-share-prefix-input : tie.Need-array-share-prefix-input
 array-share-prefix-input c = search needs
 
-slice-aggregate-statement-of : tie.Need-slice-aggregate-statement-of
-slice-aggregate-statement-of c = search needs
+slice-aggregate-printed : tie.Need-slice-aggregate-printed
+slice-aggregate-printed c = search needs
 
-slice-aggregate-statement-of-2 : tie.Need-slice-aggregate-statement-of-2
-slice-aggregate-statement-of-2 c = search needs
-
-statement-of-requires : tie.Need-statement-of-requires
-statement-of-requires c κs = search needs
-
-text-of-requires : tie.Need-text-of-requires
-text-of-requires c κs = search needs
+printed-requires : tie.Need-printed-requires
+printed-requires c κs = search needs
 
 array-share-prefix-bytes : tie.Need-array-share-prefix-bytes
-array-share-prefix-bytes c = c .before .text-of .ensures .1
+array-share-prefix-bytes c = c .before .printed .ensures .1
 
 slice-aggregate-write-all : tie.Need-slice-aggregate-write-all
-slice-aggregate-write-all c = sym (length-take-le _ _ (c .before .before .text-of .ensures .1))
+slice-aggregate-write-all c = sym (length-take-le _ _ (c .before .before .printed .ensures .1))
 
 write-all-requires : tie.Need-write-all-requires
 write-all-requires c κs = search needs
@@ -45,10 +39,8 @@ main-spec =
     slice-aggregate-read-full
     read-full-requires
     array-share-prefix-input
-    slice-aggregate-statement-of
-    slice-aggregate-statement-of-2
-    statement-of-requires
-    text-of-requires
+    slice-aggregate-printed
+    printed-requires
     array-share-prefix-bytes
     slice-aggregate-write-all
     write-all-requires

@@ -3,15 +3,17 @@ use Prim.Native.Nat.{ℕ, _<_, _≤_}
 use mathlib.Core.Path.{_≡_}
 use mathlib.Core.List.{List, map}
 use borrow.Author.Tests.{lt-ltb, le-ltb, eq-eqb, ne-eqb}
-use lib.ListN.{length}
+use lib.ListN.{length, replicate}
 use Rattle.calendar.specs.Calendar.{quartersOf}
 use Rattle.book.specs.declared.Book.{Book}
-use Rattle.book.specs.Library.{Lent}
+use Rattle.book.specs.Library.{lent}
 use Rattle.posting.specs.Posting.{PostResult, posting}
 use Rattle.statement_text.specs.declared.Line.{Line}
 use Rattle.statement_text.specs.declared.Statement.{Statement}
+use Rattle.statement_text.specs.declared.page.Page.{Page}
+use Rattle.statement_text.specs.Text.{textOf, pageOf}
 use Rattle.statement_lines.specs.Lines.{lineOf}
-use Rattle.report.specs.Statement.{refusedBy, ofBook, reported, statement}
+use Rattle.report.specs.Statement.{refusedBy, ofBook, reported, blankJournal, statement, printed}
 
 -- the statement, once it is known whether it is a refusal
 pub turned-down : (n : ℕ) (b : Book) (s : Statement) → (n ≡ 0 → ⊥) → s ≡ refusedBy n → s ≡ reported n b
@@ -27,12 +29,14 @@ unfolding reported ofBook
 in-full n b q ls z e f = rw (eq-eqb n 0 z, e, f)
 
 -- too much was read
-pub too-much : (input : List ℕ) (l : Lent) (s : Statement) → 65536 < length input → s ≡ refusedBy 12 → (s, l) ≡ statement input l
-unfolding statement
-too-much input l s h e = rw (lt-ltb 65536 (length input) h, e)
+pub too-much : (input : List ℕ) (s : Statement) (p : Page) → 65536 < length input → s ≡ refusedBy 12
+    → p ≡ pageOf (textOf s) → p ≡ printed input
+unfolding statement printed
+too-much input s p h e f = rw (lt-ltb 65536 (length input) h, ← e) f
 
 -- what posting gives is reported
-pub shown : (input : List ℕ) (l : Lent) (s : Statement) (n : ℕ) (x : PostResult) → length input ≤ 65536 → x ≡ posting input l
-    → n ≡ x .number → s ≡ reported n (x .book) → (s, x .lent) ≡ statement input l
-unfolding statement
-shown input l s n x h p e r = rw (le-ltb 65536 (length input) h, ← p, ← e, r)
+pub shown : (input : List ℕ) (s : Statement) (p : Page) (n : ℕ) (x : PostResult) → length input ≤ 65536
+    → x ≡ posting input (lent (replicate 65532 0)) → n ≡ x .number → s ≡ reported n (x .book)
+    → p ≡ pageOf (textOf s) → p ≡ printed input
+unfolding blankJournal statement printed
+shown input s p n x h q e r f = rw (le-ltb 65536 (length input) h, ← q, ← e, ← r) f
