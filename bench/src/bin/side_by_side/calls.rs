@@ -31,8 +31,9 @@ pub fn measure(count: i64, runs: usize, rounds: u32) {
 /// Totals has no call of its own: its time is what a run with it takes longer than one without.
 fn run_ours(file: &[u8], journal: &mut [u8], rounds: u32, times: &mut Times) -> Vec<i64> {
     let mut answer = [0; ours::ANSWER_SIZE];
-    let ((), post) = timed(|| ours::post_totals(file, journal, 0, &mut answer));
-    let ((), both) = timed(|| ours::post_totals(file, journal, rounds, &mut answer));
+    let (posted, post) = timed(|| ours::post_totals(file, journal, 0, &mut answer));
+    let (again, both) = timed(|| ours::post_totals(file, journal, rounds, &mut answer));
+    assert_eq!((posted, again), (0, 0), "the library refuses the file");
     times.post.push(post);
     times.totals.push((both - post) / f64::from(rounds));
     ours::numbers(&answer)

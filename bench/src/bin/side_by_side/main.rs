@@ -11,8 +11,11 @@
 //!
 //! Totals: both sides sum the journal afresh and compare that with the stored sums. The library also
 //! tests each entry again as at its delivery (number 7, since it trusts no book); plain Rust does not.
+//!
+//! The most entries and the largest sums are compared at the end, and not measured.
 mod calls;
 mod clock;
+mod largest;
 mod ours;
 mod programs;
 mod table;
@@ -25,4 +28,5 @@ fn main() {
     calls::measure(600, 15, 40);
     calls::measure(6_000, 9, 4);
     calls::measure(60_000, 3, 2);
+    largest::compare();
 }

@@ -17,14 +17,11 @@ extern "C" {
     ) -> u32;
 }
 
-/// Posts the file, then calls totals so many times; the last answer stays in the slice.
-pub fn post_totals(file: &[u8], journal: &mut [u8], rounds: u32, answer: &mut [u8]) {
+/// Posts the file, then calls totals so many times; the last answer stays in the slice. Gives post's number.
+pub fn post_totals(file: &[u8], journal: &mut [u8], rounds: u32, answer: &mut [u8]) -> u32 {
     let (lent, length) = (journal.as_mut_ptr(), journal.len());
     // Each pointer and length are those of one slice, and what is written to is lent to nobody else.
-    let number = unsafe {
-        reactive_post_totals(file.as_ptr(), file.len(), lent, length, rounds, answer.as_mut_ptr(), answer.len())
-    };
-    assert_eq!(number, 0, "the library refuses the file");
+    unsafe { reactive_post_totals(file.as_ptr(), file.len(), lent, length, rounds, answer.as_mut_ptr(), answer.len()) }
 }
 
 /// The numbers of an answer: that of totals, the length of the list, and the figures.
