@@ -1,8 +1,3 @@
-mod FileWritten
+pub mod FileWritten
 mod Filled
-mod InFull
-mod Parts
-mod PointsWritten
-pub mod PostedBack
-pub mod WrittenBack
-mod WrittenFiles
+pub mod PointsWritten

@@ -24,12 +24,12 @@ use Rattle.book.proofs.Sound.{Sound, sound}
 use Rattle.opening.specs.Opening.{header, points, openingNumber}
 use Rattle.opening.proofs.Accepted.{accepted}
 use Rattle.posting.specs.Posting.{entriesOf, entryBytes, posting}
-use Rattle.writing.specs.RoundTrip.{Same, WrittenBack, WrittenPostsBack}
+use Rattle.round_trips.specs.RoundTrip.{Same, WrittenBack, WrittenPostsBack}
 use Rattle.writing.specs.Writing.{headerOf, fileOf, fileLength}
 use Rattle.writing.proofs.FileWritten.{Writable, writable, points-counted, entries-held, file-sized, written}
-use Rattle.writing.proofs.InFull.{after, Holds, in-full, number-zero}
-use Rattle.writing.proofs.Parts.{rest, entry-bytes}
-use Rattle.writing.proofs.WrittenFiles.{header-is, points-are, rest-is, written-opens}
+use Rattle.round_trips.proofs.InFull.{after, Holds, in-full, number-zero}
+use Rattle.round_trips.proofs.Parts.{rest, entry-bytes}
+use Rattle.round_trips.proofs.WrittenFiles.{header-is, points-are, rest-is, written-opens}
 
 -- the state of an open book
 abbrev reopened : Frame → ℕ → List Entry → State

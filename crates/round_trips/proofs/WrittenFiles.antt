@@ -20,9 +20,9 @@ use Rattle.month_file.proofs.Readable.{header-reads, point-reads}
 use Rattle.month_file.proofs.RoundTrips.{header-round-trip, point-round-trip}
 use Rattle.opening.specs.Opening.{headerBytes, pointBytes, header, points, firstPoints, anyWrong}
 use Rattle.opening.proofs.Accepted.{Openable}
 use Rattle.writing.specs.Writing.{writtenHeader, writtenPoints}
-use Rattle.writing.proofs.Parts.{rest}
+use Rattle.round_trips.proofs.Parts.{rest}
 use Rattle.writing.proofs.PointsWritten.{length-points}
 
 -- the bytes of a header in range are read as it, and are 7
 header-read : (h : Header) → headerInRange h ≡ true

@@ -1,0 +1,5 @@
+mod InFull
+mod Parts
+pub mod PostedBack
+pub mod WrittenBack
+mod WrittenFiles
