@@ -1,8 +1,7 @@
--- The three kinds of quantity as numbers, for contracts: a value of each from its count, and the largest count.
+-- Energy and money as numbers, for contracts: a value of each from its count, and the largest count.
 -- Assumes nothing.
 use Prim.Native.Nat.{ℕ, _+_, _-_, _/_, _^_, min}
 use Rattle.quantity.specs.declared.Grains.{Grains}
-use Rattle.quantity.specs.declared.Voltage.{Voltage}
 use Rattle.quantity.specs.declared.Amount.{Amount}
 
 -- 01, "Units": "A grain is 1/1600 kvarh."
@@ -16,10 +15,6 @@ perRappen = 1600000
 -- so many grains
 abbrev pub grains : ℕ → Grains
 grains n = record { 0 = n }
-
--- so many hundredths of a kilovolt
-abbrev pub voltage : ℕ → Voltage
-voltage n = record { 0 = n }
 
 -- so many amounts
 abbrev pub amount : ℕ → Amount

@@ -1,12 +1,17 @@
-// Voltages and the margins between them.
-use crate::Voltage;
+// Voltages and the margins between them, the third kind of quantity beside energy and money. Like
+// those of the crate `quantity` it is a tuple struct whose field is private to its crate, and no
+// function has a `requires`: a sum past the largest count is that largest count.
 ghost use mathlib.Core.Path.{_≡_};
 ghost use Prim.Native.Nat.{_+_};
 ghost use lib.Dec.{ltb};
-ghost use Rattle.quantity.specs.Quantity.{capped, voltage};
+ghost use Rattle.quantity.specs.Quantity.{capped};
+ghost use Rattle.voltages.specs.Voltages.{voltage};
 
 // The largest count that 32 bits hold.
 const MOST: u32 = 4_294_967_295;
+
+// A voltage, or the margin between two, in hundredths of a kilovolt.
+pub struct Voltage(u32);
 
 impl Voltage {
     // A number of hundredths of a kilovolt.

@@ -1,9 +1,9 @@
--- `quantity::Voltage::is_below` meets its contract: the comparison in 64 bits is the definition's.
+-- `voltages::Voltage::is_below` meets its contract: the comparison in 64 bits is the definition's.
 -- Assumes nothing.
 use mathlib.Core.Path.{refl}
 use borrow.Author.Needs.{needs}
-use Rattle.quantity.proofs.Voltage.is_below.Statement.{statement}
-use Rattle.quantity.proofs.Voltage.is_below.Tie as tie
+use Rattle.voltages.proofs.Voltage.is_below.Statement.{statement}
+use Rattle.voltages.proofs.Voltage.is_below.Tie as tie
 
 cast-result : tie.Need-cast-result
 cast-result c = search needs
