@@ -3,7 +3,7 @@ use mathlib.Core.Path.{_≡_, refl}
 use mathlib.Core.Bool.{true}
 use mathlib.Core.List.{[], _∷_}
 use Rattle.bits.specs.Fields.{number, shift, field, fieldsAt}
-use Rattle.quantity.specs.Quantity.{voltage}
+use Rattle.voltages.specs.Voltages.{voltage}
 use Rattle.quarter.specs.declared.Level.the-variants.{Kv380}
 use Rattle.quarter.specs.Ranges.{tariffsInRange, meteredInRange}
 use Rattle.quarter.specs.Reading.{levelOf}

@@ -8,7 +8,7 @@ use crate::Metered;
 use crate::Role;
 use crate::Shares;
 use quantity::Grains;
-use quantity::Voltage;
+use voltages::Voltage;
 ghost use mathlib.Core.Path.{_≡_};
 ghost use Prim.Native.Nat.{_≤_};
 ghost use Rattle.quantity.specs.Quantity.{grains};

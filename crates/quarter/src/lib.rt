@@ -11,10 +11,10 @@ pub use classification::classify;
 pub use levels::level_of;
 use quantity::Amount;
 use quantity::Grains;
-use quantity::Voltage;
 pub use ranges::metered_in_range;
 pub use ranges::tariffs_in_range;
 pub use valuation::value;
+use voltages::Voltage;
 
 // The role that a point plays in keeping the voltage. A semi-active point has its band B with it,
 // the energy a quarter-hour that is free at any voltage.

@@ -3,13 +3,13 @@
 use crate::print::figure;
 use crate::print::last_figure;
 use quantity::Grains;
-use quantity::Voltage;
 use quarter::Amounts;
 use quarter::Level;
 use quarter::Metered;
 use quarter::Role;
 use quarter::Shares;
 use quarter::Tariffs;
+use voltages::Voltage;
 
 // Role (1 semi-active), level (1 is 380 kV), band, lamp, take, supply, actual and set voltage.
 const QUARTER_HOURS: [[u32; 8]; 31] = [

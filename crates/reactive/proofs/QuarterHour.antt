@@ -7,8 +7,8 @@ use mathlib.Core.List.{List, [], _∷_, _++_}
 use borrow.Author.Tests.{ltb-false, ne-eqb}
 use lib.Dec.{ltb, leb, eqb}
 use lib.ListN.{length, drop}
-use Rattle.quantity.specs.declared.Voltage.{Voltage}
-use Rattle.quantity.specs.Quantity.{voltage}
+use Rattle.voltages.specs.declared.Voltage.{Voltage}
+use Rattle.voltages.specs.Voltages.{voltage}
 use Rattle.quarter.specs.declared.Role.{Role}
 use Rattle.quarter.specs.declared.Level.{Level}
 use Rattle.quarter.specs.declared.Metered.{Metered}

@@ -6,7 +6,8 @@ use mathlib.Core.List.{List, [], _∷_, _++_}
 use lib.Dec.{ltb, leb, eqb}
 use lib.ListN.{length, drop}
 use Rattle.bits.specs.Fields.{words}
-use Rattle.quantity.specs.Quantity.{grains, voltage}
+use Rattle.quantity.specs.Quantity.{grains}
+use Rattle.voltages.specs.Voltages.{voltage}
 use Rattle.quarter.specs.declared.Role.{Role}
 use Rattle.quarter.specs.declared.Role.the-variants.{Active, SemiActive}
 use Rattle.quarter.specs.declared.Metered.{Metered}

@@ -1,13 +1,13 @@
 // The classification of one quarter-hour.
 use bits::put_words;
 use quantity::Grains;
-use quantity::Voltage;
 use quarter::Metered;
 use quarter::Role;
 use quarter::Shares;
 use quarter::classify;
 use quarter::level_of;
 use quarter::metered_in_range;
+use voltages::Voltage;
 ghost use mathlib.Core.Path.{_≡_};
 ghost use mathlib.Core.List.{[], _∷_, _++_};
 ghost use Prim.Native.Nat.{_≤_};
