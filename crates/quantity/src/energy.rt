@@ -21,7 +21,8 @@ impl Grains {
     pub fn of_kvarh(kvarh: u32) -> Grains
         ensures { λ r. ⌜ r .0 ≡ perKvarh * kvarh ⌝ }
     {
-        Grains(1600 * (kvarh as u64))
+        let in_grains = 1600 * (kvarh as u64);
+        Grains(in_grains)
     }
 
     // How many grains.

@@ -37,7 +37,8 @@ impl Voltage {
         if a > MOST - b {
             return Voltage(MOST);
         }
-        Voltage(a + b)
+        let sum = a + b;
+        Voltage(sum)
     }
 
     // Whether this voltage is below `other` with a margin added. Since the margin is added to one
