@@ -1,7 +1,7 @@
 -- An entry that was found. Assumes nothing.
 use Prim.Native.Nat.{_<_}
 use mathlib.Core.Path.{_≡_, subst}
-use Rattle.month_file.specs.declared.entry.Entry.{Entry}
+use Rattle.entry_record.specs.declared.Entry.{Entry}
 use Rattle.journal.specs.declared.StandingEntry.{StandingEntry}
 use Rattle.journal.specs.declared.StandingEntry.the-variants.{Found}
 use Rattle.audit.specs.Steps.{Placed}

@@ -5,8 +5,8 @@ use mathlib.Core.List.{List, [], _∷_, _++_}
 use native.Mathlib.Omega.{arith}
 use lib.ListN.{length}
 use Rattle.quantity.specs.Quantity.{capped}
-use Rattle.month_file.specs.declared.point.Point.{Point}
-use Rattle.month_file.specs.declared.entry.Entry.{Entry}
+use Rattle.point_record.specs.declared.Point.{Point}
+use Rattle.entry_record.specs.declared.Entry.{Entry}
 use Rattle.worth.specs.declared.Figures.{Figures}
 use Rattle.worth.specs.Figures.{Column, figure, each}
 use Rattle.worth.proofs.Columns.{columns, each-column}

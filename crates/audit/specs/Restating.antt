@@ -2,7 +2,7 @@
 use Prim.Native.Nat.{ℕ, zero, suc, _+_, _-_}
 use mathlib.Core.List.{List}
 use lib.ListN.{getD, set}
-use Rattle.month_file.specs.declared.point.Point.{Point}
+use Rattle.point_record.specs.declared.Point.{Point}
 use Rattle.worth.specs.declared.Figures.{Figures}
 use Rattle.worth.specs.Figures.{figure, each, nothing}
 use Rattle.machine.specs.Machine.{worthIn}

@@ -6,9 +6,9 @@ use mathlib.Core.List.{List}
 use lib.Dec.{ltb}
 use lib.ListN.{getD, set}
 use Rattle.quantity.specs.Quantity.{capped}
-use Rattle.month_file.specs.declared.point.Point.{Point}
-use Rattle.month_file.specs.declared.entry.Entry.{Entry}
-use Rattle.month_file.specs.Point.{noPoint}
+use Rattle.point_record.specs.declared.Point.{Point}
+use Rattle.entry_record.specs.declared.Entry.{Entry}
+use Rattle.point_record.specs.Point.{noPoint}
 use Rattle.worth.specs.declared.Figures.{Figures}
 use Rattle.worth.specs.Figures.{figure, each, nothing}
 use Rattle.worth.specs.Worth.{worthHeld}

@@ -1,11 +1,11 @@
 // One entry: whether it is outside the book, what stands before it, and what it does to the totals.
 use crate::MasterData;
 use calendar::quarters_of_month;
+use entry_record::Entry;
 use journal::StandingEntry;
 use journal::found_at;
 use journal::standing_place;
-use month_file::Entry;
-use month_file::Point;
+use point_record::Point;
 use worth::Figures;
 ghost use mathlib.Core.Path.{_≡_};
 ghost use mathlib.Core.Bool.{false};

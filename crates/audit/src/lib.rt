@@ -11,7 +11,7 @@ pub use entering::is_outside;
 pub use entering::restated;
 pub use entering::standing_among;
 pub use entering::supersedes;
-use month_file::Point;
+use point_record::Point;
 pub use walk::capacity;
 pub use walk::summed_afresh;
 use worth::Figures;

@@ -1,8 +1,8 @@
 // Whether master data are those that a file can have.
 use crate::MasterData;
-use month_file::Header;
-use month_file::header_in_range;
-use month_file::point_in_range;
+use header_record::Header;
+use header_record::header_in_range;
+use point_record::point_in_range;
 ghost use mathlib.Core.Path.{_≡_};
 ghost use mathlib.Core.Bool.{not, _||_};
 ghost use Prim.Native.Nat.{_≤_};

@@ -10,10 +10,10 @@ use lib.ListN.{length, replicate}
 use lib.Seq.{paste}
 use Rattle.refusals.specs.Refusals.{first}
 use Rattle.refusals.proofs.First.{none-holds}
-use Rattle.month_file.specs.declared.entry.Entry.{Entry}
-use Rattle.month_file.specs.declared.entry.EntryAnswer.the-variants.{Read, Refused}
-use Rattle.month_file.specs.Entry.{decodedEntry}
-use Rattle.month_file.proofs.Readable.{entry-reads}
+use Rattle.entry_record.specs.declared.Entry.{Entry}
+use Rattle.entry_record.specs.declared.EntryAnswer.the-variants.{Read, Refused}
+use Rattle.entry_record.specs.Entry.{decodedEntry}
+use Rattle.entry_record.proofs.Laws.{entry-reads}
 use Rattle.answers.specs.declared.Answer.{Answer}
 use Rattle.answers.specs.declared.Answer.the-variants.{Accepted}
 use Rattle.answers.specs.Numbers.{numberOf}

@@ -6,8 +6,8 @@ use lib.Dec.{eqb}
 use lib.ListN.{length, replicate}
 use lib.Seq.{paste}
 use Rattle.refusals.specs.Refusals.{first}
-use Rattle.month_file.specs.declared.entry.Entry.{Entry}
-use Rattle.month_file.specs.Entry.{entryIn}
+use Rattle.entry_record.specs.declared.Entry.{Entry}
+use Rattle.entry_record.specs.Entry.{entryIn}
 use Rattle.worth.specs.declared.Figures.{Figures}
 use Rattle.worth.specs.Figures.{nothing}
 use Rattle.answers.specs.Numbers.{numberOf}

@@ -4,7 +4,7 @@ use crate::commands::RECORD;
 use audit::MasterData;
 use audit::are_equal;
 use book::Book;
-use month_file::Point;
+use point_record::Point;
 use quantity::Grains;
 use quarter::Level;
 use quarter::Tariffs;

@@ -11,12 +11,13 @@ use Rattle.refusals.specs.Refusals.{first}
 use Rattle.refusals.proofs.First.{decided, stop}
 use Rattle.lists.specs.Lists.{allOf, anyBelow, placesBelow}
 use Rattle.lists.proofs.Laws.{none-at, all-places}
-use Rattle.month_file.specs.declared.header.Header.{Header}
-use Rattle.month_file.specs.declared.point.Point.{Point}
-use Rattle.month_file.specs.Header.{headerInRange}
-use Rattle.month_file.specs.Point.{pointIn, pointInRange, wrongPoint, noPoint}
-use Rattle.month_file.proofs.Headers.{in-range}
-use Rattle.month_file.proofs.Readable.{header-reads, point-reads}
+use Rattle.header_record.specs.declared.Header.{Header}
+use Rattle.point_record.specs.declared.Point.{Point}
+use Rattle.header_record.specs.Header.{headerInRange}
+use Rattle.point_record.specs.Point.{pointIn, pointInRange, wrongPoint, noPoint}
+use Rattle.header_record.proofs.Headers.{in-range}
+use Rattle.header_record.proofs.Laws.{header-reads}
+use Rattle.point_record.proofs.Laws.{point-reads}
 use Rattle.machine.specs.Machine.{change, totals, fresh, conditions}
 use Rattle.machine.proofs.Totals.{totals-nothing}
 use Rattle.journal.specs.Journal.{entries}

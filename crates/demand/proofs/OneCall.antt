@@ -12,9 +12,9 @@ use lib.Seq.{paste, length-paste}
 use Rattle.refusals.specs.Refusals.{first}
 use Rattle.refusals.proofs.First.{none-holds}
 use Rattle.lists.proofs.Laws.{tests-same, none-next, none-last}
-use Rattle.month_file.specs.declared.entry.Entry.{Entry}
-use Rattle.month_file.specs.Entry.{entryIn, unreadable}
-use Rattle.month_file.proofs.Readable.{entry-reads}
+use Rattle.entry_record.specs.declared.Entry.{Entry}
+use Rattle.entry_record.specs.Entry.{entryIn, unreadable}
+use Rattle.entry_record.proofs.Laws.{entry-reads}
 use Rattle.worth.specs.declared.Figures.{Figures}
 use Rattle.machine.specs.Machine as machine
 use Rattle.machine.specs.Machine.{Frame, State, Change, deliver, takeBack, close, Call, change, totals, capacityOf, outside, notAbove, full, empty}

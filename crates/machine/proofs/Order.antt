@@ -5,7 +5,7 @@ use mathlib.Core.Bool.{true}
 use mathlib.Core.List.{List}
 use Rattle.refusals.specs.Refusals.{first}
 use Rattle.refusals.proofs.First.{stop}
-use Rattle.month_file.specs.Entry.{unreadable}
+use Rattle.entry_record.specs.Entry.{unreadable}
 use Rattle.machine.specs.Machine.{State, deliver, conditions}
 
 -- an unreadable delivery gets 5, from a closed book too

@@ -5,10 +5,10 @@
 // A sample's line has the values of its fields and the bytes that encode it again. A bound's line has
 // a field's place and width in bits, the value put there, and whether the record is then read.
 use bits::put;
+use entry_record::EntryAnswer;
+use header_record::HeaderAnswer;
 use libc::STDOUT_FILENO;
-use month_file::EntryAnswer;
-use month_file::HeaderAnswer;
-use month_file::PointAnswer;
+use point_record::PointAnswer;
 use quarter::Level;
 use quarter::Transformer;
 ghost use Prim.Native.Nat.{_+_, _^_, _≤_, _<_};
@@ -175,7 +175,7 @@ fn header_case(at: usize, width: usize, value: u64)
 {
     let mut bytes = HEADER;
     put(&mut bytes, at, width, value);
-    let answer = month_file::decode_header(&bytes);
+    let answer = header_record::decode_header(&bytes);
     let HeaderAnswer::Read(_) = answer else {
         bound(at, width, value, b" refused\n");
         return;
@@ -190,7 +190,7 @@ fn point_case(mut bytes: [u8; 21], at: usize, width: usize, value: u64)
     requires { ⌜ value < 2 ^ width ⌝ }
 {
     put(&mut bytes, at, width, value);
-    let answer = month_file::decode_point(&bytes);
+    let answer = point_record::decode_point(&bytes);
     let PointAnswer::Read(_) = answer else {
         bound(at, width, value, b" refused\n");
         return;
@@ -206,7 +206,7 @@ fn entry_case(at: usize, width: usize, value: u64)
 {
     let mut bytes = FIRST;
     put(&mut bytes, at, width, value);
-    let answer = month_file::decode_entry(&bytes);
+    let answer = entry_record::decode_entry(&bytes);
     let EntryAnswer::Read(_) = answer else {
         bound(at, width, value, b" refused\n");
         return;
@@ -224,7 +224,7 @@ fn bound(at: usize, width: usize, value: u64, answer: &[u8]) {
 
 // Writes a header's fields, and the bytes that encode them.
 fn show_header(bytes: &[u8]) {
-    let answer = month_file::decode_header(bytes);
+    let answer = header_record::decode_header(bytes);
     let HeaderAnswer::Read(header) = answer else {
         text(b"header refused\n");
         return;
@@ -235,13 +235,13 @@ fn show_header(bytes: &[u8]) {
     number(header.points as u64);
     number(header.entries as u64);
     let mut again = [0u8; 7];
-    month_file::encode_header(header, &mut again);
+    header_record::encode_header(header, &mut again);
     hex(&again);
 }
 
 // Writes a point's fields, its band, and the bytes that encode them.
 fn show_point(bytes: &[u8]) {
-    let answer = month_file::decode_point(bytes);
+    let answer = point_record::decode_point(bytes);
     let PointAnswer::Read(point) = answer else {
         text(b"point refused\n");
         return;
@@ -259,15 +259,15 @@ fn show_point(bytes: &[u8]) {
     place(point.third);
     place(point.fourth);
     text(b" band");
-    number(month_file::band(point).count());
+    number(point_record::band(point).count());
     let mut again = [0u8; 21];
-    month_file::encode_point(point, &mut again);
+    point_record::encode_point(point, &mut again);
     hex(&again);
 }
 
 // Writes an entry's fields, and the bytes that encode them.
 fn show_entry(bytes: &[u8]) {
-    let answer = month_file::decode_entry(bytes);
+    let answer = entry_record::decode_entry(bytes);
     let EntryAnswer::Read(entry) = answer else {
         text(b"entry refused\n");
         return;
@@ -283,7 +283,7 @@ fn show_entry(bytes: &[u8]) {
     number(metered.actual.count() as u64);
     number(metered.set.count() as u64);
     let mut again = [0u8; 12];
-    month_file::encode_entry(entry, &mut again);
+    entry_record::encode_entry(entry, &mut again);
     hex(&again);
 }
 

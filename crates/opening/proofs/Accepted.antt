@@ -7,7 +7,7 @@ use native.Mathlib.Omega.{arith}
 use borrow.Author.Tests.{le-ltb, eq-eqb, eqb-true, not-false}
 use lib.ListN.{length}
 use Rattle.refusals.proofs.First.{none-holds, all-passed}
-use Rattle.month_file.specs.Header.{wrongHeader}
+use Rattle.header_record.specs.Header.{wrongHeader}
 use Rattle.opening.specs.Opening.{headerBytes, header, points, anyWrong, wrongLength, openingConditions, openingNumber, masterOf, padded, freshOf, openedBook}
 
 -- the length that the header of a file asks for

@@ -7,14 +7,14 @@ use native.Mathlib.Omega.{arith}
 use borrow.Author.Tests.{lt-ltb, le-ltb, eq-eqb, ne-eqb, not-false}
 use lib.Dec.{eqb}
 use lib.ListN.{length, take, replicate, length-take}
-use Rattle.month_file.specs.declared.header.Header.{Header}
-use Rattle.month_file.specs.declared.header.HeaderAnswer.{HeaderAnswer}
-use Rattle.month_file.specs.declared.header.HeaderAnswer.the-variants.{Read, Refused}
-use Rattle.month_file.specs.declared.point.Point.{Point}
-use Rattle.month_file.specs.Header.{decodedHeader, wrongHeader}
-use Rattle.month_file.specs.Point.{noPoint}
-use Rattle.month_file.proofs.Headers.{in-range}
-use Rattle.month_file.proofs.Readable.{header-reads}
+use Rattle.header_record.specs.declared.Header.{Header}
+use Rattle.header_record.specs.declared.HeaderAnswer.{HeaderAnswer}
+use Rattle.header_record.specs.declared.HeaderAnswer.the-variants.{Read, Refused}
+use Rattle.point_record.specs.declared.Point.{Point}
+use Rattle.header_record.specs.Header.{decodedHeader, wrongHeader}
+use Rattle.point_record.specs.Point.{noPoint}
+use Rattle.header_record.proofs.Headers.{in-range}
+use Rattle.header_record.proofs.Laws.{header-reads}
 use Rattle.answers.specs.declared.Answer.{Answer}
 use Rattle.answers.specs.declared.Answer.the-variants.{Accepted, TooShort, WrongHeader, WrongLength, WrongPoint}
 use Rattle.book.specs.declared.Reply.{Reply}

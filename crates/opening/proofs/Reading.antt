@@ -10,11 +10,11 @@ use lib.Seq.{append-snoc, set-append-seam}
 use Rattle.bits.proofs.Parts.{part}
 use Rattle.lists.specs.Lists.{placesBelow}
 use Rattle.lists.proofs.Laws.{length-places, none-next, any-further}
-use Rattle.month_file.specs.declared.point.Point.{Point}
-use Rattle.month_file.specs.declared.point.PointAnswer.{PointAnswer}
-use Rattle.month_file.specs.declared.point.PointAnswer.the-variants.{Read, Refused}
-use Rattle.month_file.specs.Point.{decodedPoint, pointIn, wrongPoint, noPoint}
-use Rattle.month_file.proofs.Readable.{point-reads}
+use Rattle.point_record.specs.declared.Point.{Point}
+use Rattle.point_record.specs.declared.PointAnswer.{PointAnswer}
+use Rattle.point_record.specs.declared.PointAnswer.the-variants.{Read, Refused}
+use Rattle.point_record.specs.Point.{decodedPoint, pointIn, wrongPoint, noPoint}
+use Rattle.point_record.proofs.Laws.{point-reads}
 use Rattle.opening.specs.Opening.{pointBytes, firstPoints, anyWrong}
 
 -- so many points are read

@@ -4,10 +4,10 @@ use mathlib.Core.Bool.{Bool, true, false, cond, not}
 use mathlib.Core.List.{List, [], _∷_, _++_}
 use lib.Dec.{ltb, eqb}
 use lib.ListN.{length, take, drop, replicate}
-use Rattle.month_file.specs.declared.header.Header.{Header}
-use Rattle.month_file.specs.declared.point.Point.{Point}
-use Rattle.month_file.specs.Header.{headerIn, wrongHeader}
-use Rattle.month_file.specs.Point.{pointIn, wrongPoint, noPoint}
+use Rattle.header_record.specs.declared.Header.{Header}
+use Rattle.point_record.specs.declared.Point.{Point}
+use Rattle.header_record.specs.Header.{headerIn, wrongHeader}
+use Rattle.point_record.specs.Point.{pointIn, wrongPoint, noPoint}
 use Rattle.refusals.specs.Refusals.{first}
 use Rattle.worth.specs.Figures.{nothing}
 use Rattle.lists.specs.Lists.{anyBelow, placesBelow}

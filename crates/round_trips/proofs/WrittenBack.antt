@@ -9,9 +9,9 @@ use lib.ListN.{length, take, drop}
 use lib.Seq.{take-at}
 use Rattle.refusals.specs.Refusals.{first}
 use Rattle.refusals.proofs.First.{all-passed}
-use Rattle.month_file.specs.declared.header.Header.{Header}
-use Rattle.month_file.specs.declared.point.Point.{Point}
-use Rattle.month_file.specs.declared.entry.Entry.{Entry}
+use Rattle.header_record.specs.declared.Header.{Header}
+use Rattle.point_record.specs.declared.Point.{Point}
+use Rattle.entry_record.specs.declared.Entry.{Entry}
 use Rattle.machine.specs.Machine.{Frame, State, deliver, withEntries, fresh, capacityOf, full, conditions, totalsIn}
 use Rattle.journal.specs.Journal.{bytesAt, entries}
 use Rattle.journal.proofs.Entries.{length-entries, bytesAt-take, entries-take}

@@ -10,14 +10,14 @@ use lib.Seq.{take-all, take-at, take-suc, drop-at, drop-drop}
 use Rattle.refusals.proofs.Tests.{both}
 use Rattle.lists.specs.Lists.{allOf, anyBelow, placesBelow}
 use Rattle.lists.proofs.Laws.{all-at}
-use Rattle.month_file.specs.declared.header.Header.{Header}
-use Rattle.month_file.specs.declared.header.HeaderAnswer.the-variants as header-answer
-use Rattle.month_file.specs.declared.point.Point.{Point}
-use Rattle.month_file.specs.declared.point.PointAnswer.the-variants as point-answer
-use Rattle.month_file.specs.Header.{headerInRange, decodedHeader, wrongHeader}
-use Rattle.month_file.specs.Point.{pointInRange, decodedPoint, encodedPoint, pointIn, wrongPoint, noPoint}
-use Rattle.month_file.proofs.Readable.{header-reads, point-reads}
-use Rattle.month_file.proofs.RoundTrips.{header-round-trip, point-round-trip}
+use Rattle.header_record.specs.declared.Header.{Header}
+use Rattle.header_record.specs.declared.HeaderAnswer.the-variants as header-answer
+use Rattle.point_record.specs.declared.Point.{Point}
+use Rattle.point_record.specs.declared.PointAnswer.the-variants as point-answer
+use Rattle.header_record.specs.Header.{headerInRange, decodedHeader, wrongHeader}
+use Rattle.point_record.specs.Point.{pointInRange, decodedPoint, encodedPoint, pointIn, wrongPoint, noPoint}
+use Rattle.header_record.proofs.Laws.{header-reads, header-round-trip}
+use Rattle.point_record.proofs.Laws.{point-reads, point-round-trip}
 use Rattle.opening.specs.Opening.{headerBytes, pointBytes, header, points, firstPoints, anyWrong}
 use Rattle.opening.proofs.Accepted.{Openable}
 use Rattle.writing.specs.Writing.{writtenHeader, writtenPoints}

@@ -17,10 +17,10 @@ use Rattle.quarter.specs.Source.{Fraction}
 use Rattle.quarter.specs.Agreement.{Exactly, Lawful}
 use Rattle.quarter.proofs.Agreement.{agrees}
 use Rattle.quarter.proofs.Band.{band-exact}
-use Rattle.month_file.specs.declared.point.Point.{Point}
-use Rattle.month_file.specs.Point.{counted}
-use Rattle.month_file.proofs.Points as Points
-use Rattle.month_file.proofs.Entries as Entries
+use Rattle.point_record.specs.declared.Point.{Point}
+use Rattle.point_record.specs.Point.{counted}
+use Rattle.point_record.proofs.Points as Points
+use Rattle.entry_record.proofs.Entries as Entries
 use Rattle.worth.specs.Worth.{roleOf, worth, worthHeld}
 use Rattle.worth.specs.Demand2.{Limit, Figures004, Demand2}
 use Rattle.worth.proofs.Held.{held}

@@ -11,7 +11,7 @@ use Rattle.quarter.specs.Reading.{absolute}
 use Rattle.quarter.specs.Agreement.{total}
 use Rattle.quarter.specs.Ranges.{tariffsInRange, meteredInRange}
 use Rattle.quarter.proofs.Conservation.{conserved, absolute-most, credit-most, debit-most, exact}
-use Rattle.month_file.specs.declared.point.Point.{Point}
+use Rattle.point_record.specs.declared.Point.{Point}
 use Rattle.worth.specs.Figures.{Column, Absolute, Paid, Free, Billed, Allowance, Disconnected, Credit, Debit, figure}
 use Rattle.worth.specs.Worth.{roleOf, put, sharesOf, worth, worthHeld}
 

@@ -10,7 +10,7 @@ use Rattle.quarter.specs.declared.Shares.{Shares}
 use Rattle.quarter.specs.declared.Tariffs.{Tariffs}
 use Rattle.quarter.specs.declared.Amounts.{Amounts}
 use Rattle.quarter.specs.Reading.{absolute, classified, valued}
-use Rattle.month_file.specs.declared.point.Point.{Point}
+use Rattle.point_record.specs.declared.Point.{Point}
 use Rattle.worth.specs.Worth.{roleOf, put, sharesOf, worthHeld}
 
 -- the role of a point whose role bit is 1

@@ -9,10 +9,10 @@ use Rattle.quarter.specs.declared.Role.the-variants.{Active, SemiActive}
 use Rattle.quarter.specs.declared.Metered.{Metered}
 use Rattle.quarter.specs.Source.{vergütet, frei, verrechnet, VB, RB, ΔWQlim}
 use Rattle.quarter.specs.Agreement.{Said, Exactly}
-use Rattle.month_file.specs.declared.point.Point.{Point}
-use Rattle.month_file.specs.declared.entry.Entry.{Entry}
-use Rattle.month_file.specs.Point.{pointInRange, counted}
-use Rattle.month_file.specs.Entry.{entryInRange}
+use Rattle.point_record.specs.declared.Point.{Point}
+use Rattle.entry_record.specs.declared.Entry.{Entry}
+use Rattle.point_record.specs.Point.{pointInRange, counted}
+use Rattle.entry_record.specs.Entry.{entryInRange}
 use Rattle.worth.specs.declared.Figures.{Figures}
 use Rattle.worth.specs.Figures.{Paid, Free, Billed, Credit, Debit, figure}
 use Rattle.worth.specs.Worth.{worthHeld}

@@ -9,8 +9,8 @@ use Rattle.quarter.specs.declared.Shares.{Shares}
 use Rattle.quarter.specs.declared.Tariffs.{Tariffs}
 use Rattle.quarter.specs.declared.Amounts.{Amounts}
 use Rattle.quarter.specs.Reading.{absolute, band, classified, creditOf, debitOf, amounts, valued}
-use Rattle.month_file.specs.declared.point.Point.{Point}
-use Rattle.month_file.specs.Point.{counted}
+use Rattle.point_record.specs.declared.Point.{Point}
+use Rattle.point_record.specs.Point.{counted}
 use Rattle.worth.specs.declared.Figures.{Figures}
 
 -- "role 1 bit (0 active, 1 semi-active)"; "The band B, in grains, is the sum of uk times Sn over the transformers"

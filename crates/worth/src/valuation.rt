@@ -1,7 +1,7 @@
 // The figures of one quarter-hour, at tariffs that are given.
 use crate::Figures;
-use month_file::Point;
-use month_file::band;
+use point_record::Point;
+use point_record::band;
 use quantity::Grains;
 use quarter::Metered;
 use quarter::Role;

@@ -11,9 +11,9 @@ use lib.Seq.{take-all, length-take-le}
 use Rattle.refusals.specs.Refusals.{first}
 use Rattle.refusals.proofs.First.{refuse, none-holds, past, decided}
 use Rattle.lists.specs.Lists.{allOf}
-use Rattle.month_file.specs.Header.{headerInRange, encodedHeader}
-use Rattle.month_file.specs.Point.{pointInRange}
-use Rattle.month_file.proofs.Overwriting.{header-overwriting}
+use Rattle.header_record.specs.Header.{headerInRange, encodedHeader}
+use Rattle.point_record.specs.Point.{pointInRange}
+use Rattle.header_record.proofs.Laws.{header-overwriting}
 use Rattle.machine.specs.Machine.{capacityOf}
 use Rattle.answers.specs.declared.Answer.{Answer}
 use Rattle.answers.specs.Numbers.{numberOf}

@@ -9,9 +9,9 @@ use lib.ListN.{length, getD, take, drop, replicate, length-append, drop-of-lengt
 use lib.Seq.{take-suc, length-take-le, getD-take}
 use Rattle.lists.specs.Lists.{allOf}
 use Rattle.lists.proofs.Laws.{all-at}
-use Rattle.month_file.specs.declared.point.Point.{Point}
-use Rattle.month_file.specs.Point.{encodedPoint, pointInRange}
-use Rattle.month_file.proofs.Overwriting.{point-overwriting}
+use Rattle.point_record.specs.declared.Point.{Point}
+use Rattle.point_record.specs.Point.{encodedPoint, pointInRange}
+use Rattle.point_record.proofs.Laws.{point-overwriting}
 use Rattle.writing.specs.Writing.{writtenPoints}
 use Rattle.writing.proofs.Filled.{returned, length-part, part-filled, length-filled}
 

@@ -6,10 +6,10 @@ use mathlib.Core.List.{List, [], _∷_, _++_}
 use lib.Dec.{ltb, eqb}
 use lib.ListN.{length, take, drop, replicate}
 use Rattle.refusals.specs.Refusals.{first}
-use Rattle.month_file.specs.declared.header.Header.{Header}
-use Rattle.month_file.specs.declared.point.Point.{Point}
-use Rattle.month_file.specs.Header.{encodedHeader}
-use Rattle.month_file.specs.Point.{encodedPoint}
+use Rattle.header_record.specs.declared.Header.{Header}
+use Rattle.point_record.specs.declared.Point.{Point}
+use Rattle.header_record.specs.Header.{encodedHeader}
+use Rattle.point_record.specs.Point.{encodedPoint}
 use Rattle.answers.specs.declared.Answer.{Answer}
 use Rattle.answers.specs.Numbers.{numberOf}
 use Rattle.audit.specs.Audit.{frameOf}

@@ -2,17 +2,17 @@
 use answers::Answer;
 use book::Book;
 use book::judge;
-use month_file::Header;
-use month_file::Point;
-use month_file::encode_header;
-use month_file::encode_point;
+use header_record::Header;
+use header_record::encode_header;
+use point_record::Point;
+use point_record::encode_point;
 ghost use mathlib.Core.Path.{_≡_};
 ghost use mathlib.Core.Bool.{true, false};
 ghost use mathlib.Core.List.{_++_};
 ghost use Prim.Native.Nat.{_*_, _≤_};
 ghost use lib.ListN.{length, take, drop};
 ghost use Rattle.lists.specs.Lists.{allOf};
-ghost use Rattle.month_file.specs.Point.{pointInRange};
+ghost use Rattle.point_record.specs.Point.{pointInRange};
 ghost use Rattle.book.specs.Library.{lent, unsound};
 ghost use Rattle.writing.specs.Writing.{writtenPoints, fileOf, fileLength, writeGiven, refusedWith, writing};
 

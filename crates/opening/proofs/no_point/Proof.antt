@@ -1,7 +1,7 @@
 -- `opening::no_point` meets its contract, by definition. Assumes nothing.
 use mathlib.Core.Path.{refl}
 use Rattle.quarter.specs.Reading.{levelOf}
-use Rattle.month_file.specs.Point.{noPoint}
+use Rattle.point_record.specs.Point.{noPoint}
 use Rattle.opening.proofs.no_point.Statement.{statement}
 use Rattle.opening.proofs.no_point.Tie as tie
 

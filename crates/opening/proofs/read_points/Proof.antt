@@ -8,7 +8,7 @@ use borrow.Author.Needs.{needs}
 use native.Mathlib.Omega.{arith}
 use Rattle.lists.specs.Lists.{anyBelow, placesBelow}
 use Rattle.opening.specs.Opening.{anyWrong}
-use Rattle.month_file.specs.declared.point.Point.{Point}
+use Rattle.point_record.specs.declared.Point.{Point}
 use Rattle.opening.proofs.Reading.{withZeros, zeros-next, right-next, wrong-here, all-read}
 use Rattle.opening.proofs.read_points.Statement.{statement}
 use Rattle.opening.proofs.read_points.Tie as tie

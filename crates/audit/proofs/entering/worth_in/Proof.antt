@@ -1,6 +1,6 @@
 -- `audit::entering::worth_in` meets its contract. Assumes nothing.
 use Rattle.quarter.specs.Reading.{levelOf}
-use Rattle.month_file.specs.Point.{noPoint}
+use Rattle.point_record.specs.Point.{noPoint}
 use borrow.Author.Needs.{needs}
 use Rattle.audit.proofs.entering.worth_in.Statement.{statement}
 use Rattle.audit.proofs.entering.worth_in.Tie as tie

@@ -1,7 +1,7 @@
 -- `audit::ranges::has_points` meets its contract. Assumes nothing.
 use mathlib.Core.Bool.{false}
 use lib.ListN.{length, getD}
-use Rattle.month_file.specs.Point.{noPoint}
+use Rattle.point_record.specs.Point.{noPoint}
 use borrow.Author.Needs.{needs}
 use Rattle.audit.specs.Audit.{wrongPoint}
 use Prim.Native.Nat.{ℕ, _-_, _≤_}
@@ -15,7 +15,7 @@ use Rattle.refusals.proofs.Tests.{not-not}
 use mathlib.Core.Bool.{true}
 use native.Mathlib.Omega.{arith}
 use lib.ListN.{take}
-use Rattle.month_file.specs.Point.{pointInRange}
+use Rattle.point_record.specs.Point.{pointInRange}
 use Rattle.audit.proofs.ranges.has_points.Statement.{statement}
 use Rattle.audit.proofs.ranges.has_points.Tie as tie
 
