@@ -2,10 +2,9 @@
 use mathlib.Core.Path.{_≡_, refl}
 use mathlib.Core.List.{[], _∷_}
 use Rattle.bits.specs.Fields.{number, shift, field, fieldsAt}
-use Rattle.header_record.specs.declared.HeaderAnswer.the-variants.{Read}
-use Rattle.header_record.specs.Header.{headerInRange, decodedHeader}
+use Rattle.header_record.specs.Header.{headerInRange, readHeader}
 
 -- "February 2024, two points", four entries
-pub february : decodedHeader (0x42 ∷ 0x45 ∷ 0x7e ∷ 0x82 ∷ 0x20 ∷ 0x00 ∷ 0x04 ∷ []) ≡ Read (record { year = 2024; month = 2; points = 2; entries = 4 })
-unfolding decodedHeader headerInRange fieldsAt field shift number
+pub february : readHeader (0x42 ∷ 0x45 ∷ 0x7e ∷ 0x82 ∷ 0x20 ∷ 0x00 ∷ 0x04 ∷ []) ≡ (0, record { year = 2024; month = 2; points = 2; entries = 4 })
+unfolding readHeader headerInRange fieldsAt field shift number
 february = refl

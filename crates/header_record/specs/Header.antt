@@ -44,7 +44,21 @@ headerKind =
       inRange = headerInRange;
     }
 
--- "A header field wrong" is refused, and any other length than 7 bytes
+-- a header of zeros
+unfoldable pub noHeader : Header
+noHeader = headerOf []
+
+-- the number and the header that an answer gives. "An accepted call gives number 0. Beside a refusal's number every other figure given
+-- is 0"
+unfoldable pub headerGiven : HeaderAnswer → ℕ × Header
+headerGiven (Read h) = (0, h)
+headerGiven Refused = (2, noHeader)
+
+-- what bytes give. 2: "A header field wrong."; any other length than 7 bytes gives 2 too
+unfoldable pub readHeader : List ℕ → ℕ × Header
+readHeader bytes = decoded headerKind (λ h. (0, h)) (2, noHeader) bytes
+
+-- the answer that gives it
 unfoldable pub decodedHeader : List ℕ → HeaderAnswer
 decodedHeader bytes = decoded headerKind Read Refused bytes
 

@@ -5,7 +5,7 @@ use record_fields::write_fields;
 ghost use mathlib.Core.Path.{_≡_};
 ghost use Rattle.record_fields.specs.Layout.{Small};
 ghost use Rattle.header_record.specs.Header.{headerWidths, headerValues, headerOf};
-ghost use Rattle.header_record.specs.Header.{headerInRange, decodedHeader, encodedHeader};
+ghost use Rattle.header_record.specs.Header.{headerInRange, headerGiven, readHeader, encodedHeader};
 
 // The two bytes that a month file opens with.
 const OPENING: [u8; 2] = *b"BE";
@@ -47,7 +47,7 @@ pub fn header_in_range(header: Header) -> bool
 
 // The header that the bytes hold.
 pub fn decode_header(bytes: &[u8]) -> HeaderAnswer
-    ensures { λ r. ⌜ r ≡ decodedHeader (now (bytes .entry)) ⌝ }
+    ensures { λ r. ⌜ headerGiven r ≡ readHeader (now (bytes .entry)) ⌝ }
 {
     if bytes.len() != 7 {
         return HeaderAnswer::Refused;

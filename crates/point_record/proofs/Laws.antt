@@ -1,7 +1,8 @@
--- The point as a kind of record: what is read, and that the decoder and the encoder undo each other. Assumes nothing.
+-- The point as a kind of record: what an answer gives, what is read, and that the decoder and the encoder undo each other. Assumes nothing.
 use Prim.Native.Nat.{ℕ, _<_}
-use mathlib.Core.Path.{_≡_, refl, sym}
+use mathlib.Core.Path.{_≡_, refl, sym, ap}
 use mathlib.Core.Bool.{Bool, true, false, cond}
+use mathlib.Core.List.{List}
 use native.Mathlib.Omega.{arith}
 use borrow.Author.Tests.{eqb-true, eqb-false}
 use lib.Dec.{eqb}
@@ -11,15 +12,30 @@ use Rattle.quarter.specs.declared.Level.{Level}
 use Rattle.quarter.specs.declared.Level.the-variants.{Kv220, Kv380}
 use Rattle.quarter.specs.Reading.{levelOf}
 use Rattle.record_fields.specs.RoundTrip.{RoundTrip}
+use Rattle.record_fields.proofs.Answers.{answered}
 use Rattle.record_fields.proofs.OneBit.{bit-back, bit-forth}
 use Rattle.record_fields.proofs.Overwriting.{Overwriting, overwriting}
 use Rattle.record_fields.proofs.Readable.{Reads, all-read}
 use Rattle.record_fields.proofs.RoundTrips.{trip}
 use Rattle.point_record.specs.declared.Point.{Point}
+use Rattle.point_record.specs.declared.PointAnswer.{PointAnswer}
 use Rattle.point_record.specs.declared.PointAnswer.the-variants.{Read, Refused}
-use Rattle.point_record.specs.Point.{levelBit, pointValues, pointOf, pointInRange, pointKind, decodedPoint, encodedPoint}
-use Rattle.point_record.specs.Point.{pointIn, isRefused, wrongPoint}
+use Rattle.point_record.specs.Point.{levelBit, pointValues, pointOf, pointInRange, pointKind, pointGiven, readPoint}
+use Rattle.point_record.specs.Point.{decodedPoint, encodedPoint, pointIn, isRefused, wrongPoint}
 use Rattle.point_record.proofs.Points.{point-lawful}
+
+-- no two answers give the same
+given-same : (a b : PointAnswer) → pointGiven a ≡ pointGiven b → a ≡ b
+unfolding pointGiven
+given-same (Read x) (Read y) e = ap (λ (g : ℕ × Point). Read (g .1)) e
+given-same (Read x) Refused e = let z : _≡_ {A = ℕ} 0 4 = ap (λ (g : ℕ × Point). g .0) e in absurd (omega arith)
+given-same Refused (Read y) e = let z : _≡_ {A = ℕ} 4 0 = ap (λ (g : ℕ × Point). g .0) e in absurd (omega arith)
+given-same Refused Refused e = refl
+
+-- so the answer that gives what the bytes do is that of the definitions
+pub point-decoded : (r : PointAnswer) (bytes : List ℕ) → pointGiven r ≡ readPoint bytes → r ≡ decodedPoint bytes
+unfolding pointGiven readPoint decodedPoint
+point-decoded r bytes e = answered pointKind Read Refused pointGiven given-same r bytes e
 
 pub point-reads : Reads 21 pointInRange Read Refused decodedPoint pointIn wrongPoint
 unfolding decodedPoint pointIn wrongPoint

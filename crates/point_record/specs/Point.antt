@@ -83,7 +83,21 @@ abbrev pub pointKind : Kind Point
 pointKind =
     record { size = 21; widths = pointWidths; values = pointValues; of = pointOf; fixed = λ vs. true; inRange = pointInRange }
 
--- "A point record breaks a rule above" is refused, and any other length than 21 bytes
+-- a point of zeros
+unfoldable pub noPoint : Point
+noPoint = pointOf []
+
+-- the number and the point that an answer gives. "An accepted call gives number 0. Beside a refusal's number every other figure given
+-- is 0"
+unfoldable pub pointGiven : PointAnswer → ℕ × Point
+pointGiven (Read p) = (0, p)
+pointGiven Refused = (4, noPoint)
+
+-- what bytes give. 4: "A point record breaks a rule above."; any other length than 21 bytes gives 4 too
+unfoldable pub readPoint : List ℕ → ℕ × Point
+readPoint bytes = decoded pointKind (λ p. (0, p)) (4, noPoint) bytes
+
+-- the answer that gives it
 unfoldable pub decodedPoint : List ℕ → PointAnswer
 decodedPoint bytes = decoded pointKind Read Refused bytes
 
@@ -108,7 +122,3 @@ isRefused Refused = true
 
 unfoldable pub wrongPoint : List ℕ → Bool
 wrongPoint bytes = isRefused (decodedPoint bytes)
-
--- a point of zeros
-unfoldable pub noPoint : Point
-noPoint = pointOf []

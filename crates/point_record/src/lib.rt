@@ -15,7 +15,7 @@ ghost use Rattle.quantity.specs.Quantity.{grains};
 ghost use Rattle.quarter.specs.Reading.{band};
 ghost use Rattle.record_fields.specs.Layout.{Small};
 ghost use Rattle.point_record.specs.Point.{pointWidths, levelBit, pointValues, place, pointOf};
-ghost use Rattle.point_record.specs.Point.{placeInRange, pointInRange, decodedPoint};
+ghost use Rattle.point_record.specs.Point.{placeInRange, pointInRange, pointGiven, readPoint};
 ghost use Rattle.point_record.specs.Point.{encodedPoint, counted, product};
 
 // The widths of the fields: role, level, transformers, payment and billing tariff, penalty, and the
@@ -87,7 +87,7 @@ fn place_in_range(counts: bool, place: Transformer) -> bool
 
 // The point that the bytes hold.
 pub fn decode_point(bytes: &[u8]) -> PointAnswer
-    ensures { λ r. ⌜ r ≡ decodedPoint (now (bytes .entry)) ⌝ }
+    ensures { λ r. ⌜ pointGiven r ≡ readPoint (now (bytes .entry)) ⌝ }
 {
     if bytes.len() != 21 {
         return PointAnswer::Refused;

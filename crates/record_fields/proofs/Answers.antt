@@ -1,8 +1,8 @@
 -- What a decoder and an encoder answer, from the tests that lead to the answer: one argument for the three kinds of record.
 -- Assumes nothing.
 use Prim.Native.Nat.{ℕ, _*_, _≤_}
-use mathlib.Core.Path.{_≡_, sym, ap, _∙_}
-use mathlib.Core.Bool.{Bool, true, false, not, _&&_}
+use mathlib.Core.Path.{_≡_, refl, sym, ap, _∙_}
+use mathlib.Core.Bool.{Bool, true, false, cond, not, _&&_}
 use mathlib.Core.List.{List}
 use native.Mathlib.Omega.{arith}
 use borrow.Author.Tests.{eq-eqb, ne-eqb, eqb-true, not-true, not-false}
@@ -39,6 +39,21 @@ module _ {R A : Type 0} (k : Kind R) (read : R → A) (refused : A) (bytes : Lis
 
     pub turned-down : (k .fixed vs && good) ≡ false → refused ≡ decoded k read refused bytes
     turned-down t = let j : refused ≡ judged k read refused vs = rw (← ex, ← eg, t) in j ∙ reached
+
+-- What a decoder's answer gives (a number and a record) is what the bytes give; and where no two answers give the same, the answer
+-- is known from what it gives.
+module _ {R A G : Type 0} (k : Kind R) (read : R → A) (refused : A) (given : A → G) where
+  inside : (a b : Bool) (x : R) → given (cond a (cond b (read x) refused) refused) ≡ cond a (cond b (given (read x)) (given refused)) (given refused)
+  inside true true x = refl
+  inside true false x = refl
+  inside false b x = refl
+
+  pub answered : ((a b : A) → given a ≡ given b → a ≡ b)
+      → (r : A) (bytes : List ℕ) → given r ≡ decoded k (λ x. given (read x)) (given refused) bytes → r ≡ decoded k read refused bytes
+  answered same r bytes e =
+      let vs = fieldsAt bytes 0 (k .widths) in
+      same r (decoded k read refused bytes)
+      (e ∙ sym (inside (eqb (length bytes) (k .size)) (k .fixed vs && k .inRange (k .of vs)) (k .of vs)))
 
 -- An encoder's answer; where it writes, what the test says gives what writing asks.
 module _ {R : Type 0} (k : Kind R) (x : R) (bytes : List ℕ) {good : Bool} (eg : good ≡ k .inRange x) where

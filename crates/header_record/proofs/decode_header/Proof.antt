@@ -2,16 +2,15 @@
 use mathlib.Core.Path.{refl}
 use denote.Ref.{now}
 use borrow.Author.Needs.{needs}
-use Rattle.header_record.specs.declared.HeaderAnswer.the-variants.{Read, Refused}
-use Rattle.header_record.specs.Header.{headerKind, decodedHeader}
+use Rattle.header_record.specs.Header.{headerKind, noHeader, headerGiven, readHeader}
 use Rattle.record_fields.proofs.Answers.{layout, other, accepted, turned-down}
 use Rattle.header_record.proofs.Headers.{header-lawful}
 use Rattle.header_record.proofs.decode_header.Statement.{statement}
 use Rattle.header_record.proofs.decode_header.Tie as tie
 
 returns : tie.Need-returns
-unfolding decodedHeader
-returns c = other headerKind Read Refused (now (c .before .before .args .bytes)) (c .if1 .taken)
+unfolding headerGiven readHeader
+returns c = other headerKind (λ h. (0, h)) (2, noHeader) (now (c .before .before .args .bytes)) (c .if1 .taken)
 
 slice-aggregate-read-fields : tie.Need-slice-aggregate-read-fields
 slice-aggregate-read-fields c = search needs
@@ -35,19 +34,19 @@ header-in-range-requires : tie.Need-header-in-range-requires
 header-in-range-requires c κs = search needs
 
 returns-2 : tie.Need-returns-2
-unfolding decodedHeader
+unfolding headerGiven readHeader
 returns-2 c =
     let s = c .before .before .before .before in
     let t = s .before .before .before in
-    accepted headerKind Read Refused (now (t .before .before .args .bytes)) (t .if1 .left) (s .read-fields .last .1 .1 .0)
+    accepted headerKind (λ h. (0, h)) (2, noHeader) (now (t .before .before .args .bytes)) (t .if1 .left) (s .read-fields .last .1 .1 .0)
     (s .read-fields .ensures .0) (c .before .before .header-of .ensures) (c .before .header-in-range .ensures) (c .if2 .taken)
 
 returns-3 : tie.Need-returns-3
-unfolding decodedHeader
+unfolding headerGiven readHeader
 returns-3 c =
     let s = c .before .before .before .before in
     let t = s .before .before .before in
-    turned-down headerKind Read Refused (now (t .before .before .args .bytes)) (t .if1 .left) (s .read-fields .last .1 .1 .0)
+    turned-down headerKind (λ h. (0, h)) (2, noHeader) (now (t .before .before .args .bytes)) (t .if1 .left) (s .read-fields .last .1 .1 .0)
     (s .read-fields .ensures .0) (c .before .before .header-of .ensures) (c .before .header-in-range .ensures) (c .if2 .left)
 
 pub decode-header-spec : {M : Type 1} → statement M

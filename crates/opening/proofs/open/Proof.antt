@@ -1,6 +1,7 @@
 -- `opening::open` meets its contract. Assumes nothing.
 use native.Mathlib.Omega.{arith}
 use borrow.Author.Needs.{needs}
+use Rattle.header_record.proofs.Laws.{header-decoded}
 use Rattle.opening.proofs.InOrder.{too-short, header-bytes, wrong-header, few-points, wrong-length, wrong-point, accepts}
 use Rattle.opening.proofs.open.Statement.{statement}
 use Rattle.opening.proofs.open.Tie as tie
@@ -28,7 +29,7 @@ refused-requires-2 c κs = search needs
 
 returns-2 : tie.Need-returns-2
 returns-2 c =
-    wrong-header _ (omega arith) _ (c .before .before .before .decode-header .ensures) (c .before .enum-told .given .1)
+    wrong-header _ (omega arith) _ (header-decoded _ _ (c .before .before .before .decode-header .ensures)) (c .before .enum-told .given .1)
     (c .refused2 .result) (c .refused2 .ensures)
 
 cast-count : tie.Need-cast-count
@@ -55,14 +56,14 @@ refused-requires-3 c κs = search needs
 returns-3 : tie.Need-returns-3
 returns-3 c =
     let h = c .before .before .before .before .before in
-    wrong-length _ (omega arith) _ (h .before .before .decode-header .ensures) _ (h .header .given .1) (c .before .if2 .taken)
+    wrong-length _ (omega arith) _ (header-decoded _ _ (h .before .before .decode-header .ensures)) _ (h .header .given .1) (c .before .if2 .taken)
     (c .refused3 .result) (c .refused3 .ensures)
 
 read-points-requires : tie.Need-read-points-requires
 read-points-requires c κs =
     let h = c .before .before .before .before in
     let file = h .before .before .before .before .before .before .args .file .now in
-    (omega (arith, c .if2 .left), few-points file (omega arith) _ (h .before .before .decode-header .ensures) _ (h .header .given .1))
+    (omega (arith, c .if2 .left), few-points file (omega arith) _ (header-decoded _ _ (h .before .before .decode-header .ensures)) _ (h .header .given .1))
 
 refused-requires-4 : tie.Need-refused-requires-4
 refused-requires-4 c κs = search needs
@@ -71,7 +72,7 @@ returns-4 : tie.Need-returns-4
 returns-4 c =
     let p = c .before .before .before in
     let h = p .before .before .before .before .before in
-    wrong-point _ (omega arith) _ (h .before .before .decode-header .ensures) _ (h .header .given .1)
+    wrong-point _ (omega arith) _ (header-decoded _ _ (h .before .before .decode-header .ensures)) _ (h .header .given .1)
     (p .before .if2 .left) _ _ (p .read-points .ensures) (c .before .if3 .taken) (c .refused4 .result) (c .refused4 .ensures)
 
 fresh-requires : tie.Need-fresh-requires
@@ -81,7 +82,7 @@ returns-5 : tie.Need-returns-5
 returns-5 c =
     let p = c .before .before .before .before in
     let h = p .before .before .before .before .before in
-    accepts _ (omega arith) _ (h .before .before .decode-header .ensures) _ (h .header .given .1)
+    accepts _ (omega arith) _ (header-decoded _ _ (h .before .before .decode-header .ensures)) _ (h .header .given .1)
     (p .before .if2 .left) _ _ (p .read-points .ensures) (c .before .before .if3 .left) (c .fresh .result) (c .fresh .ensures)
 
 pub open-spec : {M : Type 1} → statement M

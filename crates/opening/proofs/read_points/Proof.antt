@@ -9,6 +9,7 @@ use native.Mathlib.Omega.{arith}
 use Rattle.lists.specs.Lists.{anyBelow, placesBelow}
 use Rattle.opening.specs.Opening.{anyWrong}
 use Rattle.point_record.specs.declared.Point.{Point}
+use Rattle.point_record.proofs.Laws.{point-decoded}
 use Rattle.opening.proofs.Reading.{withZeros, zeros-next, right-next, wrong-here, all-read}
 use Rattle.opening.proofs.read_points.Statement.{statement}
 use Rattle.opening.proofs.read_points.Tie as tie
@@ -57,7 +58,7 @@ returns : tie.Need-returns Inv-loop μ-loop
 returns c =
     let a = c .before .before .before .before .before .before .before .before .args in
     let l = c .before .before .before .before .before .loop in
-    let w = wrong-here (l .i) (a .file .now) _ (c .before .before .decode-point .ensures) (c .enum-told .given .1) (a .count) (omega arith) in
+    let w = wrong-here (l .i) (a .file .now) _ (point-decoded _ _ (c .before .before .decode-point .ensures)) (c .enum-told .given .1) (a .count) (omega arith) in
     (rw w, λ h. absurd (false≢true h))
 
 mul-points : tie.Need-mul-points Inv-loop μ-loop
@@ -76,7 +77,7 @@ loop-again : tie.Need-loop-again Inv-loop μ-loop
 loop-again c =
     let a = c .before .before .before .before .before .before .before .before .before .args in
     let l = c .before .before .before .before .before .before .loop in
-    let r = right-next (l .i) (a .file .now) _ (c .before .before .before .decode-point .ensures) _ (c .before .point .given .1) (l .inv .1 .0) in
+    let r = right-next (l .i) (a .file .now) _ (point-decoded _ _ (c .before .before .before .decode-point .ensures)) _ (c .before .point .given .1) (l .inv .1 .0) in
     (omega arith, (r .0, ap (λ (ps : List Point). set ps (l .i) (c .before .point .given .0 .0)) (l .inv .1 .1) ∙ zeros-next (l .i) (a .file .now) _ (omega arith) (r .1)))
 
 returns-2 : tie.Need-returns-2 Inv-loop μ-loop

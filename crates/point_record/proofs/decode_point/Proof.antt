@@ -2,16 +2,15 @@
 use mathlib.Core.Path.{refl}
 use denote.Ref.{now}
 use borrow.Author.Needs.{needs}
-use Rattle.point_record.specs.declared.PointAnswer.the-variants.{Read, Refused}
-use Rattle.point_record.specs.Point.{pointKind, decodedPoint}
+use Rattle.point_record.specs.Point.{pointKind, noPoint, pointGiven, readPoint}
 use Rattle.record_fields.proofs.Answers.{layout, other, accepted, turned-down}
 use Rattle.point_record.proofs.Points.{point-lawful}
 use Rattle.point_record.proofs.decode_point.Statement.{statement}
 use Rattle.point_record.proofs.decode_point.Tie as tie
 
 returns : tie.Need-returns
-unfolding decodedPoint
-returns c = other pointKind Read Refused (now (c .before .before .args .bytes)) (c .if1 .taken)
+unfolding pointGiven readPoint
+returns c = other pointKind (λ p. (0, p)) (4, noPoint) (now (c .before .before .args .bytes)) (c .if1 .taken)
 
 slice-aggregate-read-fields : tie.Need-slice-aggregate-read-fields
 slice-aggregate-read-fields c = search needs
@@ -29,19 +28,19 @@ point-in-range-requires : tie.Need-point-in-range-requires
 point-in-range-requires c κs = search needs
 
 returns-2 : tie.Need-returns-2
-unfolding decodedPoint
+unfolding pointGiven readPoint
 returns-2 c =
     let s = c .before .before .before .before in
     let t = s .before .before .before in
-    accepted pointKind Read Refused (now (t .before .before .args .bytes)) (t .if1 .left) (s .read-fields .last .1 .1 .0)
+    accepted pointKind (λ p. (0, p)) (4, noPoint) (now (t .before .before .args .bytes)) (t .if1 .left) (s .read-fields .last .1 .1 .0)
     (s .read-fields .ensures .0) (c .before .before .point-of .ensures) (c .before .point-in-range .ensures) (c .if2 .taken)
 
 returns-3 : tie.Need-returns-3
-unfolding decodedPoint
+unfolding pointGiven readPoint
 returns-3 c =
     let s = c .before .before .before .before in
     let t = s .before .before .before in
-    turned-down pointKind Read Refused (now (t .before .before .args .bytes)) (t .if1 .left) (s .read-fields .last .1 .1 .0)
+    turned-down pointKind (λ p. (0, p)) (4, noPoint) (now (t .before .before .args .bytes)) (t .if1 .left) (s .read-fields .last .1 .1 .0)
     (s .read-fields .ensures .0) (c .before .before .point-of .ensures) (c .before .point-in-range .ensures) (c .if2 .left)
 
 pub decode-point-spec : {M : Type 1} → statement M

@@ -6,6 +6,7 @@ use Rattle.book.proofs.Deliveries.{not-read}
 use Rattle.book.proofs.Numbers.{guarded, guard-refused}
 use Rattle.book.proofs.Replies.{replied}
 use borrow.Author.Needs.{needs}
+use Rattle.entry_record.proofs.Laws.{entry-decoded}
 use Rattle.book.proofs.Book.deliver.Statement.{statement}
 use Rattle.book.proofs.Book.deliver.Tie as tie
 
@@ -50,7 +51,7 @@ returns-2 c =
     let j = told .before .before .judge in
     replied (c .reply2 .ensures)
     (not-read _ _ _ (guarded _ _ (sym (j .ensures) ∙ ap numberOf (told .enum-told .given .1)))
-    (sym (decoded .decode-entry .ensures) ∙ q .enum-told2 .given .1))
+    (sym (entry-decoded _ _ (decoded .decode-entry .ensures)) ∙ q .enum-told2 .given .1))
 
 deliver-entry-requires : tie.Need-deliver-entry-requires
 deliver-entry-requires c κs =
@@ -59,7 +60,7 @@ deliver-entry-requires c κs =
     let told = decoded .before in
     let j = told .before .before .judge in (
       guarded _ _ (sym (j .ensures) ∙ ap numberOf (told .enum-told .given .1)),
-      sym (decoded .decode-entry .ensures) ∙ read .entry .given .1,
+      sym (entry-decoded _ _ (decoded .decode-entry .ensures)) ∙ read .entry .given .1,
     )
 
 same-length-3 : tie.Need-same-length-3

@@ -7,6 +7,7 @@ use Rattle.book.specs.Library.{lent}
 use Rattle.book.proofs.TakingBack.{Answered, is-refused, is-some, lies, is-read, is-unposted}
 use Rattle.book.proofs.Replies.{replied}
 use borrow.Author.Needs.{needs}
+use Rattle.entry_record.proofs.Laws.{entry-decoded}
 use Rattle.book.proofs.Book.take_back_sound.Statement.{statement}
 use Rattle.book.proofs.Book.take_back_sound.Tie as tie
 
@@ -56,7 +57,7 @@ returns-2 c =
     let q = c .before in
     let read = q .before .before in
     let told = read .before .before in
-    absurd (is-read (answered (told .before .before)) (told .enum-told .given .1) (sym (read .entry-at .ensures) ∙ q .enum-told2 .given .1))
+    absurd (is-read (answered (told .before .before)) (told .enum-told .given .1) (sym (entry-decoded _ _ (read .entry-at .ensures)) ∙ q .enum-told2 .given .1))
 
 standing-among-requires : tie.Need-standing-among-requires
 standing-among-requires c κs =
@@ -64,7 +65,7 @@ standing-among-requires c κs =
     let read = known .before .before in
     let told = read .before .before in
     let room = lies (answered (told .before .before)) (told .enum-told .given .1) in
-    (omega (arith, room), read-range _ _ (sym (read .entry-at .ensures) ∙ known .entry .given .1) .quarter)
+    (omega (arith, room), read-range _ _ (sym (entry-decoded _ _ (read .entry-at .ensures)) ∙ known .entry .given .1) .quarter)
 
 slice-aggregate-write-at : tie.Need-slice-aggregate-write-at
 slice-aggregate-write-at c = search needs
