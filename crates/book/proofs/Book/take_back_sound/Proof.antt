@@ -85,7 +85,7 @@ returns-3 c =
     let known = stands .before .before .before in
     let read = known .before .before in
     let told = read .before .before in
-    is-unposted (answered (told .before .before)) (told .enum-told .given .1) (sym (read .entry-at .ensures) ∙ known .entry .given .1)
+    is-unposted (answered (told .before .before)) (told .enum-told .given .1) (sym (entry-decoded _ _ (read .entry-at .ensures)) ∙ known .entry .given .1)
     (stands .standing-among .ensures) (written .write-at .ensures) (c .restated .ensures)
 
 restated-requires : tie.Need-restated-requires
@@ -93,7 +93,7 @@ restated-requires c κs =
     let stands = c .before .before .before .before .before in
     let known = stands .before .before .before in
     let read = known .before .before in
-    let r = read-range _ _ (sym (read .entry-at .ensures) ∙ known .entry .given .1) in
+    let r = read-range _ _ (sym (entry-decoded _ _ (read .entry-at .ensures)) ∙ known .entry .given .1) in
     (r .point, (placed _ _ _ (stands .standing-among .ensures), placed-read _ r))
 
 pub take-back-sound-spec : {M : Type 1} → statement M
