@@ -6,21 +6,14 @@
 // stands `kept` where book and journal are as before, and `void` beside an opening that hands back the
 // void book. Totals has the length and, for each place that is not all 0, the place and its eight
 // figures. A command that is not understood prints `?`.
-mod buffers;
-mod calls;
-mod commands;
-mod fields;
-mod forge;
-mod print;
-mod words;
-
 use libc::STDIN_FILENO;
+use libc::STDOUT_FILENO;
 
 fn main() {
     let mut input = io::large_buffer();
     let count = io::read_full(STDIN_FILENO, &mut input);
     if count == 65_536 {
-        print::text(b"too long a text");
+        io::write_all(STDOUT_FILENO, b"too long a text");
     }
-    commands::run(&input[..count]);
+    cases::run(&input[..count]);
 }

@@ -1,0 +1,86 @@
+// What a case prints of a call, for the programs that run cases (docs/book_cases.md): words, the number answered,
+// whether a refused call has left all as it was, and figures. Every function prints, and hands back nothing.
+mod books;
+
+use book::Book;
+use book::Reply;
+use book::Totals;
+use books::same_book;
+use books::void_book;
+use libc::STDOUT_FILENO;
+use worth::Figures;
+
+// Bytes as they are.
+pub fn text(text: &[u8]) {
+    io::write_all(STDOUT_FILENO, text);
+}
+
+// A number after a space.
+pub fn number(n: u64) {
+    text(b" ");
+    io::print_decimal(STDOUT_FILENO, n);
+}
+
+// The number answered. A refused opening has to hand back the void book, any other refused call the book
+// as it was; and the journal has to be as it was.
+pub fn show_answer(opening: bool, before: Book, reply: Reply, same_journal: bool) {
+    let answer = reply.answer;
+    let refusal = answer.number();
+    number(refusal as u64);
+    if refusal == 0 {
+        return;
+    }
+    if opening {
+        show_void(reply.book, same_journal);
+    } else {
+        kept(b" kept", same_book(before, reply.book) & same_journal);
+    }
+}
+
+// Whether a refused opening has handed back the void book, and the journal is as it was.
+pub fn show_void(book: Book, same_journal: bool) {
+    kept(b" void", same_book(void_book(), book) & same_journal);
+}
+
+fn kept(word: &[u8], as_due: bool) {
+    if as_due {
+        text(word);
+    } else {
+        text(b" changed");
+    }
+}
+
+// Number, length and figures that totals gives.
+pub fn show_totals(totals: Totals) {
+    let answer = totals.answer;
+    let points = totals.points;
+    text(b" totals");
+    number(answer.number() as u64);
+    number(totals.length as u64);
+    places(points);
+}
+
+// The figures of all eight places.
+fn places(figures: [Figures; 8]) {
+    for i in 0..8 {
+        place(i as u64, figures[i]);
+    }
+}
+
+// A place and its figures, unless all of them are 0.
+fn place(place: u64, figures: Figures) {
+    if figures.equals(Figures::none()) {
+        return;
+    }
+    text(b" [");
+    io::print_decimal(STDOUT_FILENO, place);
+    number(figures.absolute.count());
+    number(figures.paid.count());
+    number(figures.free.count());
+    number(figures.billed.count());
+    number(figures.allowance.count());
+    number(figures.disconnected.count());
+    number(figures.credit.count());
+    number(figures.debit.count());
+    text(b"]");
+}

@@ -1,0 +1,59 @@
+// The file and the journal, which commands write into directly.
+use crate::commands::Command;
+use crate::commands::ENTRY;
+use crate::commands::FILL;
+use crate::commands::HEADER;
+use crate::commands::LENT;
+use crate::commands::POINT;
+use crate::commands::SHOW;
+use crate::commands::SIZE;
+use crate::commands::STORED;
+use crate::fields::pack;
+use case_lines::text;
+use libc::STDOUT_FILENO;
+
+// Zeros, as functions: written out in `run`, they would stand in every step of its proof.
+pub fn no_file() -> [u8; 256] {
+    [0; 256]
+}
+
+pub fn no_journal() -> [u8; 60] {
+    [0; 60]
+}
+
+// A record in the file or the journal, from the byte on that the row's first number names; a journal of
+// one byte all over; the journal shown; the size of the file, and how much of the journal is lent. Other
+// commands change nothing here.
+pub fn set(command: Command, file: &mut [u8; 256], journal: &mut [u8; 60], sizes: &mut [usize; 2]) {
+    let name = command.name;
+    let row = command.row;
+    match name {
+        HEADER | POINT | ENTRY => pack(file, row[0], name, row, 1),
+        STORED => pack(journal, row[0], name, row, 1),
+        FILL => fill(journal, (row[0] % 256) as u8),
+        SHOW => show(journal),
+        SIZE => sizes[0] = row[0] as usize,
+        LENT => sizes[1] = row[0] as usize,
+        _ => {}
+    }
+}
+
+fn fill(journal: &mut [u8; 60], byte: u8) {
+    for i in 0..60 {
+        journal[i] = byte;
+    }
+}
+
+// All bytes of the journal in hexadecimal, those that are not lent too, 12 to a group.
+fn show(journal: &[u8; 60]) {
+    for i in 0..60 {
+        if i % 12 == 0 {
+            text(b" ");
+        }
+        io::print_hex(STDOUT_FILENO, wide(journal[i]), 2);
+    }
+}
+
+fn wide(byte: u8) -> u64 {
+    byte as u64
+}
