@@ -2,7 +2,7 @@
 use audit::MasterData;
 use audit::are_equal;
 use book::Book;
-use month_file::Point;
+use point_record::Point;
 use quarter::Level;
 use quarter::Tariffs;
 use quarter::Transformer;
