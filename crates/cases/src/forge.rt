@@ -2,6 +2,7 @@
 use crate::commands::BOOK;
 use crate::commands::RECORD;
 use book::Book;
+use opening::open;
 use point_record::Point;
 use quantity::Grains;
 use quarter::Tariffs;
