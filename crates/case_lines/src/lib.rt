@@ -8,7 +8,9 @@ use book::Totals;
 use books::same_book;
 use books::void_book;
 use libc::STDOUT_FILENO;
+use posting::Posted;
 use worth::Figures;
+use writing::Written;
 
 // Bytes as they are.
 pub fn text(text: &[u8]) {
@@ -16,7 +18,7 @@ pub fn text(text: &[u8]) {
 }
 
 // A number after a space.
-pub fn number(n: u64) {
+fn number(n: u64) {
     text(b" ");
     io::print_decimal(STDOUT_FILENO, n);
 }
@@ -37,8 +39,29 @@ pub fn show_answer(opening: bool, before: Book, reply: Reply, same_journal: bool
     }
 }
 
+// What posting a file gave: number and index; beside a number of the opening, 1 to 4, whether it has handed
+// back the void book and left the journal as it was.
+pub fn show_posted(posted: Posted, same_journal: bool) {
+    let answer = posted.answer;
+    let refusal = answer.number();
+    text(b" post");
+    number(refusal as u64);
+    number(posted.refused_at as u64);
+    if (1 <= refusal) & (refusal <= 4) {
+        show_void(posted.book, same_journal);
+    }
+}
+
+// The number and the length that writing a book gave.
+pub fn show_written(written: Written) {
+    let answer = written.answer;
+    text(b" write");
+    number(answer.number() as u64);
+    number(written.length as u64);
+}
+
 // Whether a refused opening has handed back the void book, and the journal is as it was.
-pub fn show_void(book: Book, same_journal: bool) {
+fn show_void(book: Book, same_journal: bool) {
     kept(b" void", same_book(void_book(), book) & same_journal);
 }
 

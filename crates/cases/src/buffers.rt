@@ -1,6 +1,9 @@
 // The file and the journal, which commands write into directly.
+use crate::calls::least;
+use crate::commands::BLANK;
 use crate::commands::Command;
 use crate::commands::ENTRY;
+use crate::commands::FILE;
 use crate::commands::FILL;
 use crate::commands::HEADER;
 use crate::commands::LENT;
@@ -21,9 +24,9 @@ pub fn no_journal() -> [u8; 60] {
     [0; 60]
 }
 
-// A record in the file or the journal, from the byte on that the row's first number names; a journal of
-// one byte all over; the journal shown; the size of the file, and how much of the journal is lent. Other
-// commands change nothing here.
+// A record in the file or the journal, from the byte on that the row's first number names; a file or a
+// journal of one byte all over; either shown; the size of the file, and how much of the journal is lent.
+// Other commands change nothing here.
 pub fn set(command: Command, file: &mut [u8; 256], journal: &mut [u8; 60], sizes: &mut [usize; 2]) {
     let name = command.name;
     let row = command.row;
@@ -31,26 +34,33 @@ pub fn set(command: Command, file: &mut [u8; 256], journal: &mut [u8; 60], sizes
         HEADER | POINT | ENTRY => pack(file, row[0], name, row, 1),
         STORED => pack(journal, row[0], name, row, 1),
         FILL => fill(journal, (row[0] % 256) as u8),
+        BLANK => fill(file, (row[0] % 256) as u8),
         SHOW => show(journal),
+        FILE => show_first(file, row[0] as usize),
         SIZE => sizes[0] = row[0] as usize,
         LENT => sizes[1] = row[0] as usize,
         _ => {}
     }
 }
 
-fn fill(journal: &mut [u8; 60], byte: u8) {
-    for i in 0..60 {
-        journal[i] = byte;
+fn fill(bytes: &mut [u8], byte: u8) {
+    for i in 0..bytes.len() {
+        bytes[i] = byte;
     }
 }
 
-// All bytes of the journal in hexadecimal, those that are not lent too, 12 to a group.
-fn show(journal: &[u8; 60]) {
-    for i in 0..60 {
+fn show_first(bytes: &[u8], count: usize) {
+    let end = least(count, bytes.len());
+    show(&bytes[0..end]);
+}
+
+// Bytes in hexadecimal, 12 to a group. Of the journal those that are not lent are shown too.
+fn show(bytes: &[u8]) {
+    for i in 0..bytes.len() {
         if i % 12 == 0 {
             text(b" ");
         }
-        io::print_hex(STDOUT_FILENO, wide(journal[i]), 2);
+        io::print_hex(STDOUT_FILENO, wide(bytes[i]), 2);
     }
 }
 

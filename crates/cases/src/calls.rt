@@ -70,7 +70,7 @@ pub fn totals_of(book: Book, journal: &[u8], lent: usize) {
     show_totals(book.totals(&journal[0..end]));
 }
 
-fn copied(journal: &[u8; 60]) -> [u8; 60] {
+pub fn copied(journal: &[u8; 60]) -> [u8; 60] {
     let mut copy = [0u8; 60];
     for i in 0..60 {
         copy[i] = journal[i];
@@ -78,7 +78,7 @@ fn copied(journal: &[u8; 60]) -> [u8; 60] {
     copy
 }
 
-fn same_bytes(a: &[u8; 60], b: &[u8; 60]) -> bool {
+pub fn same_bytes(a: &[u8; 60], b: &[u8; 60]) -> bool {
     let mut same = true;
     for i in 0..60 {
         same = same & (a[i] == b[i]);
@@ -86,7 +86,7 @@ fn same_bytes(a: &[u8; 60], b: &[u8; 60]) -> bool {
     same
 }
 
-fn least(a: usize, most: usize) -> usize
+pub fn least(a: usize, most: usize) -> usize
     ensures { λ r. ⌜ r ≤ most ⌝ }
 {
     if a < most { a } else { most }

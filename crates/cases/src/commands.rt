@@ -4,6 +4,8 @@ use crate::buffers::no_journal;
 use crate::buffers::set;
 use crate::calls::ask;
 use crate::calls::totals_of;
+use crate::files::ask_post;
+use crate::files::ask_write;
 use crate::forge::forged;
 use crate::forge::no_book;
 use crate::words::skip;
@@ -50,6 +52,14 @@ pub const FILL: u64 = 0x66696c6c;
 
 pub const LENT: u64 = 0x6c656e74;
 
+const POST: u64 = 0x706f7374;
+
+const WRITE: u64 = 0x7772697465;
+
+pub const BLANK: u64 = 0x626c616e6b;
+
+pub const FILE: u64 = 0x66696c65;
+
 // A command: its name, where the name ends, the numbers, how many there are, and where they end. Numbers
 // that are left out are 0.
 pub struct Command {
@@ -91,7 +101,7 @@ pub fn run(letters: &[u8]) {
             first_sizes = sizes;
         }
         set(command, &mut file, &mut journal, &mut sizes);
-        book = obey(book, command, &file, &mut journal, &sizes);
+        book = obey(book, command, &mut file, &mut journal, &sizes);
     }
     text(b"\n");
 }
@@ -145,13 +155,18 @@ fn after_label(letters: &[u8], command: Command, turn: usize) -> usize {
 fn obey(
     book: Book,
     command: Command,
-    file: &[u8; 256],
+    file: &mut [u8; 256],
     journal: &mut [u8; 60],
     sizes: &[usize; 2],
 ) -> Book {
     let name = command.name;
     let row = command.row;
     match name {
+        POST => ask_post(file, sizes[0], journal, sizes[1]),
+        WRITE => {
+            ask_write(book, journal, sizes[1], file, row[0] as usize);
+            book
+        }
         OPEN | DELIVER | BYTES | BACK | CLOSE => ask(book, command, file, journal, sizes),
         BOOK | RECORD | FIGURES => forged(book, name, row),
         TOTALS => {

@@ -3,6 +3,7 @@ mod buffers;
 mod calls;
 mod commands;
 mod fields;
+mod files;
 mod forge;
 mod words;
 

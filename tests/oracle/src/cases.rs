@@ -1,9 +1,9 @@
-//! The text that the program `book_cases` prints for its standard input, the cases of
-//! crates/book_cases/stdin. docs/book_cases.md has their language.
+//! The text that the programs `book_cases` and `posting_cases` print for their standard input.
+//! docs/book_cases.md has the language of the cases.
 use crate::bits::pack;
-use crate::book::open;
+use crate::book::{open, post};
 use crate::held::Held;
-use crate::month_file::{Point, Transformer, ENTRY, POINT};
+use crate::month_file::{Point, Transformer, ENTRY, ENTRY_SIZE, HEADER_SIZE, POINT, POINT_SIZE};
 use crate::trial::hex;
 
 const FILE_MOST: usize = 256;
@@ -149,6 +149,7 @@ impl Desk {
             "size" => self.size = row.at(0).min(FILE_MOST as u64) as usize,
             "lent" => self.lent = row.at(0).min(JOURNAL_MOST as u64) as usize,
             "fill" => self.journal.fill(row.at(0) as u8),
+            "blank" => self.file.fill(row.at(0) as u8),
             "book" => self.forge(row),
             "record" => self.book.points[row.place()?] = row.point(),
             "figures" => self.book.totals[row.place()?] = [1, 2, 3, 4, 5, 6, 7, 8].map(|index| row.at(index)),
@@ -170,7 +171,10 @@ impl Desk {
         let answer = match name {
             "open" => return Some(self.open()),
             "totals" => return Some(self.totals()),
-            "show" => return Some(self.journal.chunks(12).map(|place| format!(" {}", hex(place))).collect()),
+            "post" => return Some(self.post()),
+            "write" => return Some(self.write(row.at(0).min(FILE_MOST as u64) as usize)),
+            "show" => return Some(groups(&self.journal)),
+            "file" => return self.file.get(..row.at(0) as usize).map(groups),
             "deliver" => ("deliver", self.book.deliver(lent, &row.record(0, &ENTRY)?)),
             "bytes" => {
                 let bytes: Vec<u8> = row.0.iter().map(|&byte| byte as u8).collect();
@@ -200,6 +204,33 @@ impl Desk {
         }
     }
 
+    /// The entries that are posted lie in the journal as they lay in the file; beside a refused opening
+    /// nothing is posted.
+    fn post(&mut self) -> String {
+        let file = &self.file[..self.size];
+        let posted = post(file, self.lent);
+        let (number, index) = (posted.number, posted.index);
+        let Some(book) = posted.book else {
+            self.book = Held::void();
+            return format!(" post {number} {index} void");
+        };
+        let start = HEADER_SIZE + POINT_SIZE * book.points.len();
+        let length = ENTRY_SIZE * book.entries.len();
+        self.journal[..length].copy_from_slice(&file[start..][..length]);
+        self.book = Held::fresh(&book);
+        format!(" post {number} {index}")
+    }
+
+    fn write(&mut self, room: usize) -> String {
+        match self.book.write(&self.journal[..self.lent], room) {
+            Ok(bytes) => {
+                self.file[..bytes.len()].copy_from_slice(&bytes);
+                format!(" write 0 {}", bytes.len())
+            }
+            Err(number) => format!(" write {number} 0"),
+        }
+    }
+
     fn totals(&self) -> String {
         let (number, length, places) = self.book.totals(&self.journal[..self.lent]);
         let mut text = format!(" totals {number} {length}");
@@ -209,4 +240,9 @@ impl Desk {
         }
         text
     }
+}
+
+/// Bytes in hexadecimal, 12 to a group.
+fn groups(bytes: &[u8]) -> String {
+    bytes.chunks(12).map(|group| format!(" {}", hex(group))).collect()
 }

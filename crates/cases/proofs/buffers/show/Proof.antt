@@ -1,14 +1,15 @@
 -- `cases::buffers::show` is safe and ends. Assumes nothing.
 use Prim.Native.Nat.{_-_}
+use lib.ListN.{length}
 use borrow.Author.Needs.{needs}
 use Rattle.cases.proofs.buffers.show.Statement.{statement}
 use Rattle.cases.proofs.buffers.show.Tie as tie
 
 abbrev Inv-loop : tie.InvT-loop
-Inv-loop journal i₀ t3 i = Unit
+Inv-loop bytes i₀ t3 i-end i = Unit
 
 abbrev μ-loop : tie.MeasureT-loop
-μ-loop journal i₀ t3 i = 60 - i
+μ-loop bytes i₀ t3 i-end i = length bytes - i
 
 loop-holds : tie.Need-loop-holds Inv-loop μ-loop
 loop-holds c = search needs
@@ -19,8 +20,8 @@ slice-aggregate-text c = search needs
 text-requires : tie.Need-text-requires Inv-loop μ-loop
 text-requires c κs = search needs
 
-element-copy-out-wide : tie.Need-element-copy-out-wide Inv-loop μ-loop
-element-copy-out-wide c = search needs
+shared-slice-read-wide : tie.Need-shared-slice-read-wide Inv-loop μ-loop
+shared-slice-read-wide c = search needs
 
 wide-requires : tie.Need-wide-requires Inv-loop μ-loop
 wide-requires c κs = search needs
@@ -49,7 +50,7 @@ show-spec =
     loop-holds
     slice-aggregate-text
     text-requires
-    element-copy-out-wide
+    shared-slice-read-wide
     wide-requires
     print-hex-requires
     add-i

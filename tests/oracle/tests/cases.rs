@@ -1,0 +1,82 @@
+//! The answers that the programs `book_cases` and `posting_cases` are held to against those of the oracle,
+//! case by case.
+use oracle::cases::text;
+use std::fs::read_to_string;
+use std::path::Path;
+
+/// Every answer that a call on a book can get.
+const ANSWERS: [&str; 21] = [
+    "open 0",
+    "open 1",
+    "open 2",
+    "open 3",
+    "open 4",
+    "deliver 0",
+    "deliver 5",
+    "deliver 6",
+    "deliver 7",
+    "deliver 8",
+    "deliver 9",
+    "deliver 10",
+    "take-back 0",
+    "take-back 7",
+    "take-back 8",
+    "take-back 11",
+    "close 0",
+    "close 7",
+    "close 8",
+    "totals 0",
+    "totals 7",
+];
+
+/// Every answer of post, with the index beside it, and of write.
+const POSTING_ANSWERS: [&str; 19] = [
+    "post 0 0",
+    "post 1 0",
+    "post 2 0",
+    "post 3 0",
+    "post 4 0",
+    "post 5 0",
+    "post 5 1",
+    "post 5 3",
+    "post 6 0",
+    "post 6 2",
+    "post 6 3",
+    "post 9 1",
+    "post 9 3",
+    "post 10 0",
+    "post 10 1",
+    "post 10 3",
+    "write 0 97",
+    "write 7 0",
+    "write 13 0",
+];
+
+#[test]
+fn book_cases_are_as_the_oracle_has_them() {
+    compare("book_cases", &ANSWERS);
+}
+
+#[test]
+fn posting_cases_are_as_the_oracle_has_them() {
+    compare("posting_cases", &POSTING_ANSWERS);
+}
+
+/// Compares the stored answers of a program with those due for its text, and finds each answer in them.
+fn compare(program: &str, answers: &[&str]) {
+    let folder = Path::new(env!("CARGO_MANIFEST_DIR")).join("../../crates").join(program);
+    let read = |name: &str| read_to_string(folder.join(name)).unwrap_or_else(|error| panic!("{name}: {error}"));
+    let due = text(&read("stdin"));
+    let stored = read("stdout");
+    for (due, stored) in due.lines().zip(stored.lines()) {
+        assert_eq!(stored, due, "a case of crates/{program}/stdout");
+    }
+    assert!(stored == due, "crates/{program}/stdout has other lines than the cases of stdin");
+    assert!(!due.contains('?'), "a command that is none");
+    let words: Vec<&str> = due.split_whitespace().collect();
+    for answer in answers {
+        let answered: Vec<&str> = answer.split(' ').collect();
+        assert!(words.windows(answered.len()).any(|words| words == answered), "no call answers {answer}");
+    }
+    println!("oracle: {program}: {} cases", due.lines().count());
+}
