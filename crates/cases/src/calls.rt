@@ -56,16 +56,26 @@ fn answered(
     let size = least(size, file.len());
     let lent = least(lent, journal.len());
     let count = least(count, bytes.len());
+    call(
+        book,
+        name,
+        &file[0..size],
+        &mut journal[0..lent],
+        &bytes[0..count],
+    )
+}
+
+fn call(book: Book, name: u64, file: &[u8], journal: &mut [u8], bytes: &[u8]) -> Reply {
     match name {
-        OPEN => open(&file[0..size]),
-        BACK => book.take_back(&mut journal[0..lent]),
-        CLOSE => book.close(&journal[0..lent]),
-        _ => book.deliver(&mut journal[0..lent], &bytes[0..count]),
+        OPEN => open(file),
+        BACK => book.take_back(journal),
+        CLOSE => book.close(journal),
+        _ => book.deliver(journal, bytes),
     }
 }
 
 // Asks for totals with so many bytes of the journal lent.
-pub fn totals_of(book: Book, journal: &[u8], lent: usize) {
+pub fn ask_totals(book: Book, journal: &[u8], lent: usize) {
     let end = least(lent, journal.len());
     show_totals(book.totals(&journal[0..end]));
 }

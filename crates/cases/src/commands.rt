@@ -3,7 +3,7 @@ use crate::buffers::no_file;
 use crate::buffers::no_journal;
 use crate::buffers::set;
 use crate::calls::ask;
-use crate::calls::totals_of;
+use crate::calls::ask_totals;
 use crate::files::ask_post;
 use crate::files::ask_write;
 use crate::forge::forged;
@@ -162,17 +162,21 @@ fn obey(
     let name = command.name;
     let row = command.row;
     match name {
-        POST => ask_post(file, sizes[0], journal, sizes[1]),
-        WRITE => {
-            ask_write(book, journal, sizes[1], file, row[0] as usize);
-            book
-        }
         OPEN | DELIVER | BYTES | BACK | CLOSE => ask(book, command, file, journal, sizes),
         BOOK | RECORD | FIGURES => forged(book, name, row),
-        TOTALS => {
-            totals_of(book, journal, sizes[1]);
+        POST => ask_post(file, sizes[0], journal, sizes[1]),
+        _ => {
+            look(book, name, journal, sizes[1], file, row[0] as usize);
             book
         }
-        _ => book,
+    }
+}
+
+// The calls that leave the book as it is.
+fn look(book: Book, name: u64, journal: &[u8], lent: usize, file: &mut [u8], room: usize) {
+    match name {
+        TOTALS => ask_totals(book, journal, lent),
+        WRITE => ask_write(book, journal, lent, file, room),
+        _ => {}
     }
 }

@@ -53,12 +53,8 @@ const POSTING_ANSWERS: [&str; 19] = [
 ];
 
 #[test]
-fn book_cases_are_as_the_oracle_has_them() {
+fn stored_answers_are_as_the_oracle_has_them() {
     compare("book_cases", &ANSWERS);
-}
-
-#[test]
-fn posting_cases_are_as_the_oracle_has_them() {
     compare("posting_cases", &POSTING_ANSWERS);
 }
 
