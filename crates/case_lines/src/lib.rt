@@ -23,6 +23,44 @@ fn number(n: u64) {
     io::print_decimal(STDOUT_FILENO, n);
 }
 
+// The first bytes of a slice in hexadecimal, 12 to a group; all of them where there are fewer.
+pub fn show_bytes(bytes: &[u8], count: usize) {
+    for i in 0..bytes.len() {
+        if i < count {
+            show_byte(i, wide(bytes[i]));
+        }
+    }
+}
+
+// The byte at a place, after a space where a group begins.
+fn show_byte(place: usize, byte: u64) {
+    if place % 12 == 0 {
+        text(b" ");
+    }
+    io::print_hex(STDOUT_FILENO, byte, 2);
+}
+
+fn wide(byte: u8) -> u64 {
+    byte as u64
+}
+
+// The names of calls in the text, a byte for each letter.
+pub const OPEN: u64 = 0x6f70656e;
+
+pub const BACK: u64 = 0x6261636b;
+
+pub const CLOSE: u64 = 0x636c6f7365;
+
+// What is printed before a call.
+pub fn announce(name: u64) {
+    match name {
+        OPEN => text(b" open"),
+        BACK => text(b" take-back"),
+        CLOSE => text(b" close"),
+        _ => text(b" deliver"),
+    }
+}
+
 // The number answered. A refused opening has to hand back the void book, any other refused call the book
 // as it was; and the journal has to be as it was.
 pub fn show_answer(opening: bool, before: Book, reply: Reply, same_journal: bool) {

@@ -1,5 +1,4 @@
 // The file and the journal, which commands write into directly.
-use crate::calls::least;
 use crate::commands::BLANK;
 use crate::commands::Command;
 use crate::commands::ENTRY;
@@ -12,8 +11,7 @@ use crate::commands::SHOW;
 use crate::commands::SIZE;
 use crate::commands::STORED;
 use crate::fields::pack;
-use case_lines::text;
-use libc::STDOUT_FILENO;
+use case_lines::show_bytes;
 
 // Zeros, as functions: written out in `run`, they would stand in every step of its proof.
 pub fn no_file() -> [u8; 256] {
@@ -35,8 +33,8 @@ pub fn set(command: Command, file: &mut [u8; 256], journal: &mut [u8; 60], sizes
         STORED => pack(journal, row[0], name, row, 1),
         FILL => fill(journal, (row[0] % 256) as u8),
         BLANK => fill(file, (row[0] % 256) as u8),
-        SHOW => show(journal),
-        FILE => show_first(file, row[0] as usize),
+        SHOW => show_bytes(journal, 60),
+        FILE => show_bytes(file, row[0] as usize),
         SIZE => sizes[0] = row[0] as usize,
         LENT => sizes[1] = row[0] as usize,
         _ => {}
@@ -47,23 +45,4 @@ fn fill(bytes: &mut [u8], byte: u8) {
     for i in 0..bytes.len() {
         bytes[i] = byte;
     }
-}
-
-fn show_first(bytes: &[u8], count: usize) {
-    let end = least(count, bytes.len());
-    show(&bytes[0..end]);
-}
-
-// Bytes in hexadecimal, 12 to a group. Of the journal those that are not lent are shown too.
-fn show(bytes: &[u8]) {
-    for i in 0..bytes.len() {
-        if i % 12 == 0 {
-            text(b" ");
-        }
-        io::print_hex(STDOUT_FILENO, wide(bytes[i]), 2);
-    }
-}
-
-fn wide(byte: u8) -> u64 {
-    byte as u64
 }

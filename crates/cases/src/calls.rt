@@ -1,15 +1,15 @@
 // The calls on a book and its journal. Each prints its name and its answer.
-use crate::commands::BACK;
 use crate::commands::BYTES;
-use crate::commands::CLOSE;
 use crate::commands::Command;
-use crate::commands::OPEN;
 use crate::fields::pack;
 use book::Book;
 use book::Reply;
+use case_lines::BACK;
+use case_lines::CLOSE;
+use case_lines::OPEN;
+use case_lines::announce;
 use case_lines::show_answer;
 use case_lines::show_totals;
-use case_lines::text;
 use opening::open;
 ghost use Prim.Native.Nat.{_≤_};
 
@@ -31,15 +31,6 @@ pub fn ask(
     let reply = answered(book, name, file, sizes[0], journal, sizes[1], &bytes, count);
     show_answer(name == OPEN, book, reply, same_bytes(&before, journal));
     reply.book
-}
-
-fn announce(name: u64) {
-    match name {
-        OPEN => text(b" open"),
-        BACK => text(b" take-back"),
-        CLOSE => text(b" close"),
-        _ => text(b" deliver"),
-    }
 }
 
 // Makes the call with so many bytes of each slice.

@@ -11,22 +11,20 @@ use crate::forge::no_book;
 use crate::words::skip;
 use crate::words::word_at;
 use book::Book;
+use case_lines::BACK;
+use case_lines::CLOSE;
+use case_lines::OPEN;
 use case_lines::text;
 
-// The names, a byte for each letter.
+// The names, a byte for each letter; those of the calls that are printed stand with their words in
+// `case_lines`.
 const CASE: u64 = 0x63617365;
 
 const START: u64 = 0x7374617274;
 
-pub const OPEN: u64 = 0x6f70656e;
-
 const DELIVER: u64 = 0x64656c69766572;
 
 pub const BYTES: u64 = 0x6279746573;
-
-pub const BACK: u64 = 0x6261636b;
-
-pub const CLOSE: u64 = 0x636c6f7365;
 
 const TOTALS: u64 = 0x746f74616c73;
 
@@ -71,7 +69,8 @@ pub struct Command {
 }
 
 // Runs every command of the text, and prints what each answers; past 65,536 commands it stops. A case begins
-// with file, book, journal and sizes as the last `start` has left them. The sizes are how many bytes the file has, and how many of the journal each call is lent.
+// with file, book, journal and sizes as the last `start` has left them. The sizes are how many bytes the file
+// has, and how many of the journal each call is lent.
 pub fn run(letters: &[u8]) {
     let mut first_book = no_book();
     let mut first_file = no_file();

@@ -1,24 +1,18 @@
--- `cases::buffers::show` is safe and ends. Assumes nothing.
+-- `case_lines::show_bytes` is safe and ends. Assumes nothing.
 use Prim.Native.Nat.{_-_}
 use lib.ListN.{length}
 use borrow.Author.Needs.{needs}
-use Rattle.cases.proofs.buffers.show.Statement.{statement}
-use Rattle.cases.proofs.buffers.show.Tie as tie
+use Rattle.case_lines.proofs.show_bytes.Statement.{statement}
+use Rattle.case_lines.proofs.show_bytes.Tie as tie
 
 abbrev Inv-loop : tie.InvT-loop
-Inv-loop bytes i₀ t3 i-end i = Unit
+Inv-loop bytes count i₀ i-end i = Unit
 
 abbrev μ-loop : tie.MeasureT-loop
-μ-loop bytes i₀ t3 i-end i = length bytes - i
+μ-loop bytes count i₀ i-end i = length bytes - i
 
 loop-holds : tie.Need-loop-holds Inv-loop μ-loop
 loop-holds c = search needs
-
-slice-aggregate-text : tie.Need-slice-aggregate-text Inv-loop μ-loop
-slice-aggregate-text c = search needs
-
-text-requires : tie.Need-text-requires Inv-loop μ-loop
-text-requires c κs = search needs
 
 shared-slice-read-wide : tie.Need-shared-slice-read-wide Inv-loop μ-loop
 shared-slice-read-wide c = search needs
@@ -26,8 +20,8 @@ shared-slice-read-wide c = search needs
 wide-requires : tie.Need-wide-requires Inv-loop μ-loop
 wide-requires c κs = search needs
 
-print-hex-requires : tie.Need-print-hex-requires Inv-loop μ-loop
-print-hex-requires c κs = search needs
+show-byte-requires : tie.Need-show-byte-requires Inv-loop μ-loop
+show-byte-requires c κs = search needs
 
 add-i : tie.Need-add-i Inv-loop μ-loop
 add-i c = search needs
@@ -41,18 +35,16 @@ loop-again c = search needs
 returns : tie.Need-returns Inv-loop μ-loop
 returns c = search needs
 
-pub show-spec : {M : Type 1} → statement M
-show-spec =
+pub show-bytes-spec : {M : Type 1} → statement M
+show-bytes-spec =
     tie.close
     (tie.spec
     Inv-loop
     μ-loop
     loop-holds
-    slice-aggregate-text
-    text-requires
     shared-slice-read-wide
     wide-requires
-    print-hex-requires
+    show-byte-requires
     add-i
     loop-less
     loop-again
