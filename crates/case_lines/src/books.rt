@@ -9,7 +9,7 @@ use quarter::Transformer;
 use worth::Figures;
 
 // The void book: closed, no points, every number 0.
-pub fn void_book() -> Book {
+pub(crate) fn void_book() -> Book {
     let none = no_point();
     let nothing = Figures::none();
     let points = [none; 8];
@@ -48,7 +48,7 @@ fn no_point() -> Point {
 }
 
 // Whether two books are equal, the places past their points included.
-pub fn same_book(a: Book, b: Book) -> bool {
+pub(crate) fn same_book(a: Book, b: Book) -> bool {
     let totals = a.totals;
     let other_totals = b.totals;
     (a.length == b.length)

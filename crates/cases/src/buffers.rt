@@ -14,18 +14,18 @@ use crate::fields::pack;
 use case_lines::show_bytes;
 
 // Zeros, as functions: written out in `run`, they would stand in every step of its proof.
-pub fn no_file() -> [u8; 256] {
+pub(crate) fn no_file() -> [u8; 256] {
     [0; 256]
 }
 
-pub fn no_journal() -> [u8; 60] {
+pub(crate) fn no_journal() -> [u8; 60] {
     [0; 60]
 }
 
 // A record in the file or the journal, from the byte on that the row's first number names; a file or a
 // journal of one byte all over; either shown; the size of the file, and how much of the journal is lent.
 // Other commands change nothing here.
-pub fn set(command: Command, file: &mut [u8; 256], journal: &mut [u8; 60], sizes: &mut [usize; 2]) {
+pub(crate) fn set(command: Command, file: &mut [u8; 256], journal: &mut [u8; 60], sizes: &mut [usize; 2]) {
     let name = command.name;
     let row = command.row;
     match name {

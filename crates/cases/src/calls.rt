@@ -14,7 +14,7 @@ use opening::open;
 ghost use Prim.Native.Nat.{_≤_};
 
 // Opens the file, takes back, closes, or delivers: the entry of a row, or so many of its numbers as bytes.
-pub fn ask(
+pub(crate) fn ask(
     book: Book,
     command: Command,
     file: &[u8; 256],
@@ -66,12 +66,12 @@ fn call(book: Book, name: u64, file: &[u8], journal: &mut [u8], bytes: &[u8]) ->
 }
 
 // Asks for totals with so many bytes of the journal lent.
-pub fn ask_totals(book: Book, journal: &[u8], lent: usize) {
+pub(crate) fn ask_totals(book: Book, journal: &[u8], lent: usize) {
     let end = least(lent, journal.len());
     show_totals(book.totals(&journal[0..end]));
 }
 
-pub fn copied(journal: &[u8; 60]) -> [u8; 60] {
+pub(crate) fn copied(journal: &[u8; 60]) -> [u8; 60] {
     let mut copy = [0u8; 60];
     for i in 0..60 {
         copy[i] = journal[i];
@@ -79,7 +79,7 @@ pub fn copied(journal: &[u8; 60]) -> [u8; 60] {
     copy
 }
 
-pub fn same_bytes(a: &[u8; 60], b: &[u8; 60]) -> bool {
+pub(crate) fn same_bytes(a: &[u8; 60], b: &[u8; 60]) -> bool {
     let mut same = true;
     for i in 0..60 {
         same = same & (a[i] == b[i]);
@@ -87,7 +87,7 @@ pub fn same_bytes(a: &[u8; 60], b: &[u8; 60]) -> bool {
     same
 }
 
-pub fn least(a: usize, most: usize) -> usize
+pub(crate) fn least(a: usize, most: usize) -> usize
     ensures { λ r. ⌜ r ≤ most ⌝ }
 {
     if a < most { a } else { most }

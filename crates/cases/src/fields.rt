@@ -67,7 +67,7 @@ const WIDTHS: [usize; 52] = [
 ];
 
 // Which of the widths are those of a record: the first, and how many.
-pub struct Layout {
+pub(crate) struct Layout {
     pub first: usize,
     pub count: usize,
 }
@@ -98,7 +98,7 @@ fn layout_of(name: u64) -> Layout
 
 // Puts the numbers of a command's row into fields from a byte on: all of them, or those behind the first.
 // Prints `?` where a number does not fit its field, or a field the bytes.
-pub fn pack(bytes: &mut [u8], byte: u64, name: u64, row: [u64; 24], from: usize)
+pub(crate) fn pack(bytes: &mut [u8], byte: u64, name: u64, row: [u64; 24], from: usize)
     requires { ⌜ from ≤ 1 ⌝ }
 {
     let layout = layout_of(name);

@@ -10,7 +10,7 @@ use posting::post;
 use writing::write;
 
 // Posts so many bytes of the file into so many of the journal.
-pub fn ask_post(file: &[u8], size: usize, journal: &mut [u8; 60], lent: usize) -> Book {
+pub(crate) fn ask_post(file: &[u8], size: usize, journal: &mut [u8; 60], lent: usize) -> Book {
     let before = copied(journal);
     let posted = posted(file, size, journal, lent);
     show_posted(posted, same_bytes(&before, journal));
@@ -24,7 +24,7 @@ fn posted(file: &[u8], size: usize, journal: &mut [u8], lent: usize) -> Posted {
 }
 
 // Writes the book into the first bytes of the file, so many of which are the output.
-pub fn ask_write(book: Book, journal: &[u8], lent: usize, file: &mut [u8], room: usize) {
+pub(crate) fn ask_write(book: Book, journal: &[u8], lent: usize, file: &mut [u8], room: usize) {
     let lent = least(lent, journal.len());
     let room = least(room, file.len());
     show_written(write(book, &journal[0..lent], &mut file[0..room]));

@@ -3,14 +3,14 @@ use std::num::wrapping_add_u64;
 
 // A word: its last seven letters as one number, the first of them highest; the decimal number that it is
 // if it is one; and where it ends. At the end of the text it has no letters.
-pub struct Word {
+pub(crate) struct Word {
     pub letters: u64,
     pub value: u64,
     pub end: usize,
 }
 
 // The first word from here on.
-pub fn word_at(text: &[u8], from: usize) -> Word {
+pub(crate) fn word_at(text: &[u8], from: usize) -> Word {
     let mut letters = 0u64;
     let mut value = 0u64;
     let mut at = skip(text, from);
@@ -31,7 +31,7 @@ pub fn word_at(text: &[u8], from: usize) -> Word {
 }
 
 // Past blanks and comments.
-pub fn skip(text: &[u8], from: usize) -> usize {
+pub(crate) fn skip(text: &[u8], from: usize) -> usize {
     let mut comment = false;
     for at in from..text.len() {
         let byte = text[at];
