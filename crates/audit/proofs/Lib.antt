@@ -1,6 +1,5 @@
 pub mod Equal
 pub mod Fitting
-mod Found
 pub mod OneEntry
 pub mod Placed
 pub mod Places

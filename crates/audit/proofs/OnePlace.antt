@@ -14,8 +14,8 @@ use Rattle.machine.specs.Machine.{worthIn, totalOf, totalsOf}
 use Rattle.machine.proofs.Totals.{totals-get, totals-set, total-here, total-other}
 use Rattle.journal.specs.Journal.{entries, entryAt, standingPlace}
 use Rattle.journal.proofs.Entries.{one-more}
-use Rattle.audit.specs.Restating.{exchanged, restated, worthAt}
-use Rattle.audit.specs.Steps.{exchangedHeld}
+use Rattle.restating.specs.Restating.{exchanged, restated, worthAt}
+use Rattle.restating.specs.Steps.{exchangedHeld}
 use Rattle.audit.proofs.Places.{key-worth}
 
 -- figures that add up with those that go out to what there was and those that come in

@@ -8,7 +8,6 @@ mod walk;
 
 pub use comparing::are_equal;
 pub use entering::is_outside;
-pub use entering::restated;
 pub use entering::standing_among;
 pub use entering::supersedes;
 use point_record::Point;

@@ -16,7 +16,7 @@ use Rattle.machine.specs.Machine.{State, Change, deliver, takeBack, close, Call
 use Rattle.machine.specs.Machine.{worthIn, numberAlone}
 use Rattle.journal.specs.Journal.{entryAt, entries, standingPlace}
 use Rattle.audit.specs.Audit.{frameOf, unlawful, wrongTotals}
-use Rattle.audit.specs.Restating.{restated, worthAt}
+use Rattle.restating.specs.Restating.{restated, worthAt}
 use Rattle.book.specs.declared.Book.{Book}
 use Rattle.book.specs.declared.Totals.{Totals}
 

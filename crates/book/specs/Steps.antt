@@ -2,7 +2,7 @@
 use Prim.Native.Nat.{ℕ}
 use Rattle.journal.specs.declared.StandingEntry.{StandingEntry}
 use Rattle.answers.specs.declared.Answer.{Answer}
-use Rattle.audit.specs.Steps.{worthStanding, exchangedAt}
+use Rattle.restating.specs.Steps.{worthStanding, exchangedAt}
 use Rattle.book.specs.declared.Book.{Book}
 use Rattle.book.specs.declared.Reply.{Reply}
 use Rattle.book.specs.Library.{withLength, withTotals}

@@ -25,7 +25,12 @@ pub(crate) fn no_journal() -> [u8; 60] {
 // A record in the file or the journal, from the byte on that the row's first number names; a file or a
 // journal of one byte all over; either shown; the size of the file, and how much of the journal is lent.
 // Other commands change nothing here.
-pub(crate) fn set(command: Command, file: &mut [u8; 256], journal: &mut [u8; 60], sizes: &mut [usize; 2]) {
+pub(crate) fn set(
+    command: Command,
+    file: &mut [u8; 256],
+    journal: &mut [u8; 60],
+    sizes: &mut [usize; 2],
+) {
     let name = command.name;
     let row = command.row;
     match name {

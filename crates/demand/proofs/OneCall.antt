@@ -22,7 +22,7 @@ use Rattle.machine.specs.Machine.{conditions, step, changed, next, totalsOf}
 use Rattle.journal.specs.Journal.{bytesAt, entryAt, entries}
 use Rattle.journal.proofs.Entries.{length-entries, take-entries, one-more, bytesAt-paste, bytesAt-before, entries-before}
 use Rattle.audit.specs.Audit.{frameOf, stopped, stoppedAt, anyStopped}
-use Rattle.audit.specs.Restating.{restated}
+use Rattle.restating.specs.Restating.{restated}
 use Rattle.audit.proofs.Fitting.{inside, points-most, passes}
 use Rattle.audit.proofs.Placed.{entries-room}
 use Rattle.audit.proofs.OnePlace.{one-in, one-out}

@@ -1,9 +1,9 @@
--- `audit::entering::worth_in` meets its contract. Assumes nothing.
+-- `restating::worth_in` meets its contract. Assumes nothing.
 use Rattle.quarter.specs.Reading.{levelOf}
 use Rattle.point_record.specs.Point.{noPoint}
 use borrow.Author.Needs.{needs}
-use Rattle.audit.proofs.entering.worth_in.Statement.{statement}
-use Rattle.audit.proofs.entering.worth_in.Tie as tie
+use Rattle.restating.proofs.worth_in.Statement.{statement}
+use Rattle.restating.proofs.worth_in.Tie as tie
 
 cast-at : tie.Need-cast-at
 cast-at c = search needs

@@ -1,9 +1,9 @@
--- `audit::entering::restated` meets its contract. Assumes nothing.
+-- `restating::restated` meets its contract. Assumes nothing.
 use mathlib.Core.Path.{ap₂, _∙_}
 use borrow.Author.Needs.{needs}
-use Rattle.audit.specs.Steps.{exchangedAt}
-use Rattle.audit.proofs.entering.restated.Statement.{statement}
-use Rattle.audit.proofs.entering.restated.Tie as tie
+use Rattle.restating.specs.Steps.{exchangedAt}
+use Rattle.restating.proofs.restated.Statement.{statement}
+use Rattle.restating.proofs.restated.Tie as tie
 
 worth-standing-requires : tie.Need-worth-standing-requires
 worth-standing-requires c κs = search needs

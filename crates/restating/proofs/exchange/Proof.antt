@@ -1,13 +1,13 @@
--- `audit::entering::exchange` meets its contract. Assumes nothing.
+-- `restating::exchange` meets its contract. Assumes nothing.
 use Prim.Native.Nat.{_-_}
 use mathlib.Core.Path.{ap, _∙_}
 use lib.ListN.{set}
 use Rattle.worth.specs.declared.Figures.{Figures}
 use Rattle.worth.specs.Figures.{figure, each}
-use Rattle.audit.specs.Steps.{exchangedHeld}
+use Rattle.restating.specs.Steps.{exchangedHeld}
 use borrow.Author.Needs.{needs}
-use Rattle.audit.proofs.entering.exchange.Statement.{statement}
-use Rattle.audit.proofs.entering.exchange.Tie as tie
+use Rattle.restating.proofs.exchange.Statement.{statement}
+use Rattle.restating.proofs.exchange.Tie as tie
 
 mul-stored : tie.Need-mul-stored
 mul-stored c = search needs

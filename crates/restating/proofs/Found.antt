@@ -4,7 +4,7 @@ use mathlib.Core.Path.{_≡_, subst}
 use Rattle.entry_record.specs.declared.Entry.{Entry}
 use Rattle.journal.specs.declared.StandingEntry.{StandingEntry}
 use Rattle.journal.specs.declared.StandingEntry.the-variants.{Found}
-use Rattle.audit.specs.Steps.{Placed}
+use Rattle.restating.specs.Steps.{Placed}
 
 -- an entry that was found has one of eight points
 pub placed-found : (s : StandingEntry) (e : Entry) → s ≡ Found e → Placed s → e .point < 8

@@ -1,10 +1,10 @@
--- `audit::entering::worth_standing` meets its contract. Assumes nothing.
-use Rattle.audit.proofs.Found.{placed-found}
+-- `restating::worth_standing` meets its contract. Assumes nothing.
+use Rattle.restating.proofs.Found.{placed-found}
 use mathlib.Core.Path.{sym, ap, _∙_}
-use Rattle.audit.specs.Steps.{worthStanding}
+use Rattle.restating.specs.Steps.{worthStanding}
 use borrow.Author.Needs.{needs}
-use Rattle.audit.proofs.entering.worth_standing.Statement.{statement}
-use Rattle.audit.proofs.entering.worth_standing.Tie as tie
+use Rattle.restating.proofs.worth_standing.Statement.{statement}
+use Rattle.restating.proofs.worth_standing.Tie as tie
 
 enum-told : tie.Need-enum-told
 enum-told c = search needs
