@@ -23,7 +23,7 @@ use Rattle.journal.specs.declared.StandingEntry.the-variants.{Found}
 use Rattle.journal.specs.Journal.{standingPlace}
 use Rattle.journal.specs.Found.{foundAt}
 use Rattle.journal.proofs.Entries.{length-entries}
-use Rattle.audit.specs.Audit.{frameOf}
+use Rattle.master_data.specs.Master.{frameOf}
 use Rattle.audit.specs.Steps.{above}
 use Rattle.audit.proofs.OneEntry.{readable, outside-read, low-read, totals-read}
 use Rattle.audit.proofs.Placed.{one-room}

@@ -7,9 +7,10 @@ use lib.ListN.{length}
 use Rattle.refusals.proofs.Tests.{neither, not-not}
 use Rattle.machine.specs.Machine.{capacityOf, totalsIn}
 use Rattle.audit.specs.declared.Afresh.{Afresh}
-use Rattle.audit.specs.Audit.{frameOf, wrongMonth, wrongPoint, tooLong, anyStopped, unlawful, noSums, afresh, allSame, wrongTotals}
+use Rattle.master_data.specs.Master.{frameOf, wrongMonth, wrongPoint}
+use Rattle.audit.specs.Audit.{tooLong, anyStopped, unlawful, noSums, afresh, allSame, wrongTotals}
 use Rattle.audit.proofs.Equal.{all-same, all-self}
-use Rattle.audit.proofs.Fitting.{Ranged}
+use Rattle.master_data.proofs.Ranged.{Ranged}
 use Rattle.book.specs.declared.Book.{Book}
 use Rattle.book.specs.Library.{Lent, view, unsound}
 

@@ -23,7 +23,8 @@ use Rattle.journal.specs.declared.StandingEntry.the-variants.{Found}
 use Rattle.journal.specs.Journal.{bytesAt, entries, standingPlace}
 use Rattle.journal.specs.Found.{foundAt}
 use Rattle.journal.proofs.Entries.{length-entries}
-use Rattle.audit.specs.Audit.{frameOf, anyStopped}
+use Rattle.master_data.specs.Master.{frameOf}
+use Rattle.audit.specs.Audit.{anyStopped}
 use Rattle.audit.proofs.Fitting.{passes-at}
 use Rattle.audit.proofs.OneEntry.{totals-back}
 use Rattle.audit.proofs.Placed.{entries-room}

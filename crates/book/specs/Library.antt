@@ -15,7 +15,8 @@ use Rattle.machine.specs.Machine as machine
 use Rattle.machine.specs.Machine.{State, Change, deliver, takeBack, close, Call, change, totals, capacityOf, conditions}
 use Rattle.machine.specs.Machine.{worthIn, numberAlone}
 use Rattle.journal.specs.Journal.{entryAt, entries, standingPlace}
-use Rattle.audit.specs.Audit.{frameOf, unlawful, wrongTotals}
+use Rattle.master_data.specs.Master.{frameOf}
+use Rattle.audit.specs.Audit.{unlawful, wrongTotals}
 use Rattle.restating.specs.Restating.{restated, worthAt}
 use Rattle.book.specs.declared.Book.{Book}
 use Rattle.book.specs.declared.Totals.{Totals}

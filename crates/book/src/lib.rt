@@ -6,8 +6,8 @@ mod calls;
 mod judgement;
 
 use answers::Answer;
-use audit::MasterData;
 pub use judgement::judge;
+use master_data::MasterData;
 use worth::Figures;
 
 // The book. Its fields are public, and no call trusts them: each tests them against 01's number 7.

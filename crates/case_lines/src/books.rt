@@ -1,7 +1,7 @@
 // Whether two books are equal, and the void book.
-use audit::MasterData;
 use audit::are_equal;
 use book::Book;
+use master_data::MasterData;
 use point_record::Point;
 use quarter::Level;
 use quarter::Tariffs;

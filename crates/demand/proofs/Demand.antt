@@ -15,7 +15,7 @@ use Rattle.machine.specs.Machine as machine
 use Rattle.machine.specs.Machine.{Frame, State, Change, deliver, takeBack, close, Call, change, totals, Answer, conditions, next, totalsIn}
 use Rattle.machine.proofs.Frames.{run-frame}
 use Rattle.machine.proofs.Totals.{totals-get, total-energy, conserved-totals}
-use Rattle.audit.proofs.Fitting.{points-most}
+use Rattle.master_data.proofs.Ranged.{points-most}
 use Rattle.book.specs.declared.Book.{Book}
 use Rattle.book.specs.Library as library
 use Rattle.book.specs.Library.{Lent, after}

@@ -21,8 +21,9 @@ use Rattle.point_record.proofs.Laws.{point-reads}
 use Rattle.machine.specs.Machine.{change, totals, fresh, conditions}
 use Rattle.machine.proofs.Totals.{totals-nothing}
 use Rattle.journal.specs.Journal.{entries}
-use Rattle.audit.specs.Audit as audit
-use Rattle.audit.specs.Audit.{frameOf, unlawful}
+use Rattle.master_data.specs.Master as master
+use Rattle.master_data.specs.Master.{frameOf}
+use Rattle.audit.specs.Audit.{unlawful}
 use Rattle.book.specs.declared.Book.{Book}
 use Rattle.book.specs.Library.{Lent, view, unsound, guards, number, totalsGiven}
 use Rattle.book.proofs.Numbers.{called-number}
@@ -48,7 +49,7 @@ month-in-range h t = rw (le-leb (h .entries) 65535 (in-range h t .entries-most))
 -- a fresh book of a month and points in range is sound, and stands for the machine's fresh state
 fresh-stands : (h : Header) (ps : List Point) → headerInRange h ≡ true → length ps ≡ h .points → allOf pointInRange ps ≡ true
     → (l : Lent) → Stands (freshOf (masterOf h (padded ps))) l (fresh h ps (length (l .journal)))
-unfolding entries placesBelow anyBelow audit.wrongMonth audit.wrongPoint
+unfolding entries placesBelow anyBelow master.wrongMonth master.wrongPoint
 fresh-stands h ps t n a l =
     let spare = replicate (8 - length ps) noPoint in
     let e : take (h .points) (ps ++ spare) ≡ ps = take-at ps spare (h .points) n in
@@ -75,7 +76,7 @@ opened file h l =
 
 -- the void book is "closed, no points, every number 0"
 pub void-unsound : (l : Lent) → unsound void l ≡ true
-unfolding void unsound unlawful audit.wrongMonth headerInRange
+unfolding void unsound unlawful master.wrongMonth headerInRange
 void-unsound l = refl
 
 -- so 7 comes before each call's own numbers

@@ -21,9 +21,11 @@ use Rattle.machine.specs.Machine.{Frame, State, Change, deliver, takeBack, clos
 use Rattle.machine.specs.Machine.{conditions, step, changed, next, totalsOf}
 use Rattle.journal.specs.Journal.{bytesAt, entryAt, entries}
 use Rattle.journal.proofs.Entries.{length-entries, take-entries, one-more, bytesAt-paste, bytesAt-before, entries-before}
-use Rattle.audit.specs.Audit.{frameOf, stopped, stoppedAt, anyStopped}
+use Rattle.master_data.specs.Master.{frameOf}
+use Rattle.audit.specs.Audit.{stopped, stoppedAt, anyStopped}
 use Rattle.restating.specs.Restating.{restated}
-use Rattle.audit.proofs.Fitting.{inside, points-most, passes}
+use Rattle.master_data.proofs.Ranged.{inside, points-most}
+use Rattle.audit.proofs.Fitting.{passes}
 use Rattle.audit.proofs.Placed.{entries-room}
 use Rattle.audit.proofs.OnePlace.{one-in, one-out}
 use Rattle.book.specs.declared.Book.{Book}

@@ -8,7 +8,7 @@ use Rattle.quarter.specs.declared.Transformer.{Transformer}
 use Rattle.quarter.specs.Reading.{levelOf}
 use Rattle.point_record.specs.declared.Point.{Point}
 use Rattle.worth.specs.declared.Figures.{Figures}
-use Rattle.audit.specs.declared.MasterData.{MasterData}
+use Rattle.master_data.specs.declared.MasterData.{MasterData}
 use Rattle.book.specs.declared.Book.{Book}
 use Rattle.book.specs.Library.{withTotals}
 

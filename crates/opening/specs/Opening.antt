@@ -11,7 +11,7 @@ use Rattle.point_record.specs.Point.{pointIn, wrongPoint, noPoint}
 use Rattle.refusals.specs.Refusals.{first}
 use Rattle.worth.specs.Figures.{nothing}
 use Rattle.lists.specs.Lists.{anyBelow, placesBelow}
-use Rattle.audit.specs.declared.MasterData.{MasterData}
+use Rattle.master_data.specs.declared.MasterData.{MasterData}
 use Rattle.book.specs.declared.Book.{Book}
 
 -- the bytes of the header, and of the point at a place

@@ -1,11 +1,11 @@
 // Opening a file: the fresh book of its header and points.
 use answers::Answer;
-use audit::MasterData;
 use book::Book;
 use book::Reply;
 use header_record::Header;
 use header_record::HeaderAnswer;
 use header_record::decode_header;
+use master_data::MasterData;
 use point_record::Point;
 use point_record::PointAnswer;
 use point_record::decode_point;

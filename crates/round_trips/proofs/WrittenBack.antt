@@ -15,7 +15,7 @@ use Rattle.entry_record.specs.declared.Entry.{Entry}
 use Rattle.machine.specs.Machine.{Frame, State, deliver, withEntries, fresh, capacityOf, full, conditions, totalsIn}
 use Rattle.journal.specs.Journal.{bytesAt, entries}
 use Rattle.journal.proofs.Entries.{length-entries, bytesAt-take, entries-take}
-use Rattle.audit.specs.Audit.{frameOf}
+use Rattle.master_data.specs.Master.{frameOf}
 use Rattle.audit.proofs.Fitting.{Passes, passes-at}
 use Rattle.book.specs.declared.Book.{Book}
 use Rattle.book.specs.Library.{Lent, view, guards, number}

@@ -6,7 +6,7 @@ use mathlib.Core.List.{List, _++_}
 use lib.ListN.{length, take, drop}
 use Rattle.bits.specs.Fields.{AreBytes}
 use Rattle.journal.specs.Journal.{entries}
-use Rattle.audit.specs.Audit.{frameOf}
+use Rattle.master_data.specs.Master.{frameOf}
 use Rattle.book.specs.declared.Book.{Book}
 use Rattle.book.specs.Library.{Lent, unsound}
 use Rattle.opening.specs.Opening.{void}

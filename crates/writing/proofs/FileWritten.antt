@@ -17,8 +17,8 @@ use Rattle.header_record.proofs.Laws.{header-overwriting}
 use Rattle.machine.specs.Machine.{capacityOf}
 use Rattle.answers.specs.declared.Answer.{Answer}
 use Rattle.answers.specs.Numbers.{numberOf}
-use Rattle.audit.specs.Audit.{frameOf, monthOf, wrongMonth, wrongPoint}
-use Rattle.audit.proofs.Fitting.{count-most}
+use Rattle.master_data.specs.Master.{frameOf, monthOf, wrongMonth, wrongPoint}
+use Rattle.master_data.proofs.Ranged.{count-most}
 use Rattle.audit.proofs.Placed.{entries-room}
 use Rattle.book.specs.declared.Book.{Book}
 use Rattle.book.specs.Library.{Lent, guards}

@@ -12,7 +12,7 @@ use Rattle.header_record.specs.Header.{encodedHeader}
 use Rattle.point_record.specs.Point.{encodedPoint}
 use Rattle.answers.specs.declared.Answer.{Answer}
 use Rattle.answers.specs.Numbers.{numberOf}
-use Rattle.audit.specs.Audit.{frameOf}
+use Rattle.master_data.specs.Master.{frameOf}
 use Rattle.book.specs.declared.Book.{Book}
 use Rattle.book.specs.Library.{Lent, guards}
 use Rattle.writing.specs.declared.Written.{Written}

@@ -3,7 +3,7 @@ use mathlib.Core.Path.{sym}
 use native.Mathlib.Omega.{arith}
 use borrow.Author.Needs.{needs}
 use lib.Seq.{length-take-le}
-use Rattle.audit.proofs.Fitting.{eight}
+use Rattle.master_data.proofs.Ranged.{eight}
 use Rattle.book.proofs.Sound.{sound}
 use Rattle.writing.specs.Writing.{fileLength}
 use Rattle.writing.proofs.FileWritten.{writable, header-kept, points-part, points-kept, entries-part, entries-held, file-written}

@@ -1,23 +1,23 @@
--- `audit::ranges::has_points` meets its contract. Assumes nothing.
+-- `master_data::has_points` meets its contract. Assumes nothing.
 use mathlib.Core.Bool.{false}
 use lib.ListN.{length, getD}
 use Rattle.point_record.specs.Point.{noPoint}
 use borrow.Author.Needs.{needs}
-use Rattle.audit.specs.Audit.{wrongPoint}
+use Rattle.master_data.specs.Master.{wrongPoint}
 use Prim.Native.Nat.{ℕ, _-_, _≤_}
 use mathlib.Core.Path.{_≡_, refl, sym, ap, _∙_}
 use borrow.Author.Tests.{not-true, not-false}
 use Rattle.quarter.specs.Reading.{levelOf}
 use Rattle.lists.specs.Lists.{allOf}
 use Rattle.lists.proofs.Laws.{all-next, all-stop}
-use Rattle.audit.proofs.Fitting.{eight}
+use Rattle.master_data.proofs.Ranged.{eight}
 use Rattle.refusals.proofs.Tests.{not-not}
 use mathlib.Core.Bool.{true}
 use native.Mathlib.Omega.{arith}
 use lib.ListN.{take}
 use Rattle.point_record.specs.Point.{pointInRange}
-use Rattle.audit.proofs.ranges.has_points.Statement.{statement}
-use Rattle.audit.proofs.ranges.has_points.Tie as tie
+use Rattle.master_data.proofs.has_points.Statement.{statement}
+use Rattle.master_data.proofs.has_points.Tie as tie
 
 abbrev Inv-loop : tie.InvT-loop
 Inv-loop points count i₀ i = (i ≤ count) × (allOf pointInRange (take i points) ≡ true)

@@ -1,13 +1,13 @@
--- `audit::entering::is_outside` meets its contract. Assumes nothing.
+-- `master_data::is_outside` meets its contract. Assumes nothing.
 use Prim.Native.Nat.{ℕ}
 use mathlib.Core.Path.{ap, _∙_}
 use mathlib.Core.Bool.{_||_}
 use native.Mathlib.Omega.{arith}
 use lib.Dec.{leb}
-use Rattle.audit.proofs.Fitting.{eight, count-most, outside-count}
+use Rattle.master_data.proofs.Ranged.{eight, count-most, outside-count}
 use borrow.Author.Needs.{needs}
-use Rattle.audit.proofs.entering.is_outside.Statement.{statement}
-use Rattle.audit.proofs.entering.is_outside.Tie as tie
+use Rattle.master_data.proofs.is_outside.Statement.{statement}
+use Rattle.master_data.proofs.is_outside.Tie as tie
 
 quarters-of-month-requires : tie.Need-quarters-of-month-requires
 quarters-of-month-requires c κs = search needs

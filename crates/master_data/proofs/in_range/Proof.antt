@@ -1,12 +1,12 @@
--- `audit::ranges::in_range` meets its contract. Assumes nothing.
+-- `master_data::in_range` meets its contract. Assumes nothing.
 use mathlib.Core.Path.{sym, ap, _∙_}
 use mathlib.Core.Bool.{Bool, not, _||_}
 use borrow.Author.Needs.{needs}
 use Rattle.refusals.proofs.Tests.{denied, granted}
-use Rattle.audit.specs.Audit.{wrongMonth, wrongPoint}
-use Rattle.audit.proofs.Fitting.{count-most}
-use Rattle.audit.proofs.ranges.in_range.Statement.{statement}
-use Rattle.audit.proofs.ranges.in_range.Tie as tie
+use Rattle.master_data.specs.Master.{wrongMonth, wrongPoint}
+use Rattle.master_data.proofs.Ranged.{count-most}
+use Rattle.master_data.proofs.in_range.Statement.{statement}
+use Rattle.master_data.proofs.in_range.Tie as tie
 
 has-month-requires : tie.Need-has-month-requires
 has-month-requires c κs = search needs

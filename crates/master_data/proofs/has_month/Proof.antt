@@ -1,10 +1,10 @@
--- `audit::ranges::has_month` meets its contract. Assumes nothing.
+-- `master_data::has_month` meets its contract. Assumes nothing.
 use Rattle.refusals.proofs.Tests.{not-not}
 use mathlib.Core.Path.{sym, _∙_}
-use Rattle.audit.specs.Audit.{wrongMonth}
+use Rattle.master_data.specs.Master.{wrongMonth}
 use borrow.Author.Needs.{needs}
-use Rattle.audit.proofs.ranges.has_month.Statement.{statement}
-use Rattle.audit.proofs.ranges.has_month.Tie as tie
+use Rattle.master_data.proofs.has_month.Statement.{statement}
+use Rattle.master_data.proofs.has_month.Tie as tie
 
 header-in-range-requires : tie.Need-header-in-range-requires
 header-in-range-requires c κs = search needs
