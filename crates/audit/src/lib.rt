@@ -1,6 +1,6 @@
-// Going through a journal: what an entry asks of its book and does to the totals, and the sums of a whole
-// list L afresh, with whether each of its entries could have been delivered (document 01, number 7). It
-// takes master data, the length of L and the journal, and knows no book.
+// Going through a journal: what stands before an entry, and the sums of a whole list L afresh, with whether
+// each of its entries could have been delivered (document 01, number 7). It takes master data, the length of
+// L and the journal, and knows no book.
 mod comparing;
 mod entering;
 mod walk;

@@ -6,7 +6,7 @@ use crate::calls::ask;
 use crate::calls::ask_totals;
 use crate::files::ask_post;
 use crate::files::ask_write;
-use crate::forge::forged;
+use crate::forge::forge;
 use crate::forge::no_book;
 use crate::words::skip;
 use crate::words::word_at;
@@ -162,7 +162,7 @@ fn obey(
     let row = command.row;
     match name {
         OPEN | DELIVER | BYTES | BACK | CLOSE => ask(book, command, file, journal, sizes),
-        BOOK | RECORD | FIGURES => forged(book, name, row),
+        BOOK | RECORD | FIGURES => forge(book, name, row),
         POST => ask_post(file, sizes[0], journal, sizes[1]),
         _ => {
             look(book, name, journal, sizes[1], file, row[0] as usize);

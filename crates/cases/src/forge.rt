@@ -2,9 +2,10 @@
 use crate::commands::BOOK;
 use crate::commands::RECORD;
 use book::Book;
-use forged_books::with_figures;
-use forged_books::with_month;
-use forged_books::with_point;
+use forged_books::MONTH;
+use forged_books::POINT;
+use forged_books::TOTALS;
+use forged_books::forged;
 use opening::open;
 
 // The book of no file, which no opening accepts.
@@ -16,10 +17,10 @@ pub(crate) fn no_book() -> Book {
 
 // Another month, count of points, length and whether it is closed; or another record of a point, also of
 // one past the count; or other stored totals of a place.
-pub(crate) fn forged(book: Book, name: u64, row: [u64; 24]) -> Book {
+pub(crate) fn forge(book: Book, name: u64, row: [u64; 24]) -> Book {
     match name {
-        BOOK => with_month(book, row),
-        RECORD => with_point(book, row),
-        _ => with_figures(book, row),
+        BOOK => forged(book, MONTH, row),
+        RECORD => forged(book, POINT, row),
+        _ => forged(book, TOTALS, row),
     }
 }

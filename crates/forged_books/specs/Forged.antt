@@ -1,5 +1,6 @@
 -- Books with fields of any value, from a row of numbers. Assumes nothing.
 use Prim.Native.Nat.{ℕ, _*_, _%_}
+use mathlib.Core.Bool.{cond}
 use mathlib.Core.List.{List}
 use lib.Dec.{eqb}
 use lib.ListN.{getD, set}
@@ -72,3 +73,7 @@ figuresOf row =
 -- other stored totals of a place
 unfoldable pub withFigures : Book → List ℕ → Book
 withFigures b row = withTotals b (set (b .totals) (at row 0 % 8) (figuresOf row))
+
+-- the book with what is named taken from the row: 0 month, count, length and mark, 1 a point's record, else stored totals
+unfoldable pub forged : Book → ℕ → List ℕ → Book
+forged b what row = cond (eqb what 0) (withMonth b row) (cond (eqb what 1) (withPoint b row) (withFigures b row))

@@ -9,10 +9,30 @@ use quarter::level_of;
 use worth::Figures;
 ghost use mathlib.Core.Path.{_≡_};
 ghost use Rattle.forged_books.specs.Forged.{placeOf, pointOf, figuresOf};
-ghost use Rattle.forged_books.specs.Forged.{withMonth, withPoint, withFigures};
+ghost use Rattle.forged_books.specs.Forged.{withMonth, withPoint, withFigures, forged};
+
+// What is forged: the month with count, length and mark; a point's record; or stored totals.
+pub const MONTH: u8 = 0;
+
+pub const POINT: u8 = 1;
+
+pub const TOTALS: u8 = 2;
+
+// The book with what is named taken from the row; any other name than the first two is that of stored totals.
+pub fn forged(book: Book, what: u8, row: [u64; 24]) -> Book
+    ensures { λ r. ⌜ r ≡ forged book what row ⌝ }
+{
+    if what == MONTH {
+        return with_month(book, row);
+    }
+    if what == POINT {
+        return with_point(book, row);
+    }
+    with_figures(book, row)
+}
 
 // Another month, count of points, length of L, and whether the book is closed.
-pub fn with_month(mut book: Book, row: [u64; 24]) -> Book
+fn with_month(mut book: Book, row: [u64; 24]) -> Book
     ensures { λ r. ⌜ r ≡ withMonth book row ⌝ }
 {
     let mut master = book.master;
@@ -26,7 +46,7 @@ pub fn with_month(mut book: Book, row: [u64; 24]) -> Book
 }
 
 // Another record of a point, also of one past the count. The row's first number is its place.
-pub fn with_point(mut book: Book, row: [u64; 24]) -> Book
+fn with_point(mut book: Book, row: [u64; 24]) -> Book
     ensures { λ r. ⌜ r ≡ withPoint book row ⌝ }
 {
     let point = point_of(row);
@@ -40,7 +60,7 @@ pub fn with_point(mut book: Book, row: [u64; 24]) -> Book
 }
 
 // Other stored totals of a place, the row's first number.
-pub fn with_figures(mut book: Book, row: [u64; 24]) -> Book
+fn with_figures(mut book: Book, row: [u64; 24]) -> Book
     ensures { λ r. ⌜ r ≡ withFigures book row ⌝ }
 {
     let figures = figures_of(row);
