@@ -1,1 +1,2 @@
 mod Delivering
+pub mod InFull
