@@ -17,6 +17,18 @@ pub struct Line {
     pub debit: u64,
 }
 
+// A line whose figures are all 0.
+pub const NO_FIGURES: Line = Line {
+    absolute: 0,
+    paid: 0,
+    free: 0,
+    billed: 0,
+    allowance: 0,
+    disconnected: 0,
+    credit: 0,
+    debit: 0,
+};
+
 // What is to be printed: the number of a refusal; or 0, and the figures of the first line and of each
 // point. Beside a refusal the figures are 0.
 pub struct Statement {
