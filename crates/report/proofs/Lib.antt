@@ -1,1 +1,3 @@
+mod Adding
 mod Reporting
+pub mod TotalIsSum

@@ -3,7 +3,7 @@ use Prim.Native.Nat.{ℕ, _<_, _≤_}
 use mathlib.Core.Path.{_≡_}
 use mathlib.Core.List.{List, map}
 use borrow.Author.Tests.{lt-ltb, le-ltb, eq-eqb, ne-eqb}
-use lib.ListN.{length, replicate}
+use lib.ListN.{length, take, replicate}
 use Rattle.calendar.specs.Calendar.{quartersOf}
 use Rattle.book.specs.declared.Book.{Book}
 use Rattle.book.specs.Library.{lent}
@@ -13,6 +13,7 @@ use Rattle.statement_text.specs.declared.Statement.{Statement}
 use Rattle.statement_text.specs.declared.page.Page.{Page}
 use Rattle.statement_text.specs.Text.{textOf, pageOf}
 use Rattle.statement_lines.specs.Lines.{lineOf}
+use Rattle.statement_total.specs.Total.{totalLine}
 use Rattle.report.specs.Statement.{refusedBy, ofBook, reported, blankJournal, statement, printed}
 
 -- the statement, once it is known whether it is a refusal
@@ -20,13 +21,22 @@ pub turned-down : (n : ℕ) (b : Book) (s : Statement) → (n ≡ 0 → ⊥) →
 unfolding reported
 turned-down n b s z e = rw (ne-eqb n 0 z) e
 
-pub in-full : (n : ℕ) (b : Book) (q : ℕ) (ls : List Line) → n ≡ 0 → q ≡ quartersOf (b .master .year) (b .master .month)
-    → ls ≡ map lineOf (b .totals)
+pub in-full : (n : ℕ) (b : Book) (q : ℕ) (ls : List Line) (t : Line) → n ≡ 0 → q ≡ quartersOf (b .master .year) (b .master .month)
+    → ls ≡ map lineOf (b .totals) → t ≡ totalLine (take (b .master .count) ls)
     → _≡_ {A = Statement}
-    (record { number = 0; year = b .master .year; month = b .master .month; quarters = q; entries = b .length; count = b .master .count; lines = ls })
+    (record {
+      number = 0;
+      year = b .master .year;
+      month = b .master .month;
+      quarters = q;
+      entries = b .length;
+      count = b .master .count;
+      lines = ls;
+      total = t;
+    })
     (reported n b)
 unfolding reported ofBook
-in-full n b q ls z e f = rw (eq-eqb n 0 z, e, f)
+in-full n b q ls t z e f g = rw (eq-eqb n 0 z, e, g, f)
 
 -- too much was read
 pub too-much : (input : List ℕ) (s : Statement) (p : Page) → 65536 < length input → s ≡ refusedBy 12

@@ -1,39 +1,40 @@
--- Document 01, "Statement": what is printed. Assumes nothing.
+-- Document 01, "Statement", and document 02, Ticket 1: what is printed. Assumes nothing.
 use Prim.Native.Nat.{ℕ}
+use mathlib.Core.Path.{_≡_}
 use mathlib.Core.Bool.{cond}
 use mathlib.Core.List.{List, map}
 use lib.Dec.{ltb, eqb}
-use lib.ListN.{length, replicate}
+use lib.ListN.{length, take, replicate}
 use Rattle.calendar.specs.Calendar.{quartersOf}
+use Rattle.worth.specs.Figures.{Column}
 use Rattle.book.specs.declared.Book.{Book}
 use Rattle.book.specs.Library.{Lent, lent}
 use Rattle.posting.specs.Posting.{posting}
-use Rattle.statement_text.specs.declared.Line.{Line}
 use Rattle.statement_text.specs.declared.Statement.{Statement}
 use Rattle.statement_text.specs.declared.page.Page.{Page}
 use Rattle.statement_text.specs.Text.{textOf, pageOf}
 use Rattle.statement_lines.specs.Lines.{lineOf}
+use Rattle.statement_total.specs.Total.{figureOf, noFigures, sum, totalLine}
 
 -- "Beside a refusal's number every other figure given is 0"
-abbrev pub zeros : Line
-zeros =
+unfoldable pub refusedBy : ℕ → Statement
+refusedBy n =
     record {
-      absolute = 0;
-      paid = 0;
-      free = 0;
-      billed = 0;
-      allowance = 0;
-      disconnected = 0;
-      credit = 0;
-      debit = 0;
+      number = n;
+      year = 0;
+      month = 0;
+      quarters = 0;
+      entries = 0;
+      count = 0;
+      lines = replicate 8 noFigures;
+      total = noFigures;
     }
 
-unfoldable pub refusedBy : ℕ → Statement
-refusedBy n = record { number = n; year = 0; month = 0; quarters = 0; entries = 0; count = 0; lines = replicate 8 zeros }
-
--- "a line `year-month quarters entries` .., then a line for each point"
+-- "a line `year-month quarters entries` .., then a line for each point"; 02, Ticket 1: "Each figure is the sum of the figures printed
+-- above it"
 unfoldable pub ofBook : Book → Statement
 ofBook b =
+    let lines = map lineOf (b .totals) in
     record {
       number = 0;
       year = b .master .year;
@@ -41,7 +42,8 @@ ofBook b =
       quarters = quartersOf (b .master .year) (b .master .month);
       entries = b .length;
       count = b .master .count;
-      lines = map lineOf (b .totals);
+      lines = lines;
+      total = totalLine (take (b .master .count) lines);
     }
 
 -- a refusal, or the figures of the book: from the number and the book that posting gives
@@ -58,6 +60,11 @@ unfoldable pub statement : List ℕ → Statement
 statement input =
     let r = posting input blankJournal in
     cond (ltb 65536 (length input)) (refusedBy 12) (reported (r .number) (r .book))
+
+-- 02, Ticket 1: "The total handed to printing is proved equal to the sum over the point lines' figures."
+abbrev pub TotalIsSum : Type 0
+TotalIsSum =
+    (input : List ℕ) (c : Column) → let s = statement input in figureOf (s .total) c ≡ sum c (take (s .count) (s .lines))
 
 -- "It prints `refused N`, or a line .., then a line for each point"
 unfoldable pub printed : List ℕ → Page

@@ -3,13 +3,17 @@ use book::Book;
 use calendar::quarters_of_month;
 use posting::post;
 use statement_lines::lines_of;
-use statement_text::Line;
+use statement_text::NO_FIGURES;
 use statement_text::Page;
 use statement_text::Statement;
 use statement_text::text_of;
+use statement_total::total_of;
 ghost use mathlib.Core.Path.{_≡_};
+ghost use mathlib.Core.List.{map};
 ghost use Prim.Native.Nat.{_≤_};
 ghost use lib.ListN.{length};
+ghost use Rattle.statement_lines.specs.Lines.{lineOf};
+ghost use Rattle.statement_total.specs.Total.{Addable};
 ghost use Rattle.report.specs.Statement.{printed, refusedBy, reported};
 
 // Posts what was read from standard input, and gives the page that is printed for it.
@@ -29,6 +33,7 @@ pub fn printed(input: &[u8]) -> Page
 
 // What posting answered: a refusal, or the figures of the book.
 fn report(number: u32, book: Book) -> Statement
+    requires { ⌜ (number ≡ 0 → Addable (map lineOf (book .totals))) ⌝ }
     ensures { λ r. ⌜ r ≡ reported number book ⌝ }
 {
     if number != 0 {
@@ -37,6 +42,7 @@ fn report(number: u32, book: Book) -> Statement
     let master = book.master;
     let totals = book.totals;
     let lines = lines_of(totals);
+    let total = total_of(lines, master.count as usize);
     let quarters = quarters_of_month(master.year, master.month);
     Statement {
         number: 0,
@@ -46,6 +52,7 @@ fn report(number: u32, book: Book) -> Statement
         entries: book.length,
         count: master.count,
         lines,
+        total,
     }
 }
 
@@ -53,17 +60,6 @@ fn report(number: u32, book: Book) -> Statement
 fn refused(number: u32) -> Statement
     ensures { λ r. ⌜ r ≡ refusedBy number ⌝ }
 {
-    let zeros = Line {
-        absolute: 0,
-        paid: 0,
-        free: 0,
-        billed: 0,
-        allowance: 0,
-        disconnected: 0,
-        credit: 0,
-        debit: 0,
-    };
-    let lines = [zeros; 8];
     Statement {
         number,
         year: 0,
@@ -71,6 +67,7 @@ fn refused(number: u32) -> Statement
         quarters: 0,
         entries: 0,
         count: 0,
-        lines,
+        lines: [NO_FIGURES; 8],
+        total: NO_FIGURES,
     }
 }

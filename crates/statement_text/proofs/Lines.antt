@@ -13,7 +13,7 @@ use Rattle.statement_text.specs.declared.Line.{Line}
 use Rattle.statement_text.specs.declared.Statement.{Statement}
 use Rattle.statement_text.specs.declared.page.Page.{Page}
 use Rattle.statement_text.specs.Steps.{Behind}
-use Rattle.statement_text.specs.Text.{refusedText, monthText, pointText, pointsText, textOf}
+use Rattle.statement_text.specs.Text.{refusedText, monthText, pointText, pointsText, totalText, textOf}
 use Rattle.statement_text.proofs.Pages.{none, _then_}
 
 -- the line of a point behind those of the points before it
@@ -57,14 +57,18 @@ all-lines p r ls i n h k b = rw (take-all n ls (omega arith)) (rw (take-all i ls
 
 -- the text of a statement, once it is known whether it is a refusal
 either : (s : Statement) (t : Bool) → eqb (s .number) 0 ≡ t
-    → textOf s ≡ cond t (monthText s ++ pointsText 0 (take (s .count) (s .lines))) (refusedText (s .number))
+    → textOf s ≡ cond t (monthText s ++ pointsText 0 (take (s .count) (s .lines)) ++ totalText (s .total)) (refusedText (s .number))
 unfolding textOf
-either s t e = ap (λ (u : Bool). cond u (monthText s ++ pointsText 0 (take (s .count) (s .lines))) (refusedText (s .number))) e
+either s t e =
+    ap (λ (u : Bool).
+    cond u (monthText s ++ pointsText 0 (take (s .count) (s .lines)) ++ totalText (s .total)) (refusedText (s .number)))
+    e
 
 -- the text of a refusal
 pub refusal : (s : Statement) → (s .number ≡ 0 → ⊥) → refusedText (s .number) ≡ textOf s
 refusal s n = sym (either s false (ne-eqb (s .number) 0 n))
 
--- the text of a month: its first line, and the lines of the points behind it
-pub whole : (s : Statement) → s .number ≡ 0 → monthText s ++ pointsText 0 (take (s .count) (s .lines)) ≡ textOf s
+-- the text of a month: its first line, the lines of the points behind it, and the total behind them
+pub whole : (s : Statement) → s .number ≡ 0
+    → monthText s ++ pointsText 0 (take (s .count) (s .lines)) ++ totalText (s .total) ≡ textOf s
 whole s z = sym (either s true (eq-eqb (s .number) 0 z))

@@ -1,4 +1,4 @@
--- Document 01, "Statement": the bytes that are printed. Assumes nothing.
+-- Document 01, "Statement", and document 02, Ticket 1: the bytes that are printed. Assumes nothing.
 use Prim.Native.Nat.{ℕ, zero, suc, _+_, _-_, _/_, _%_}
 use mathlib.Core.Bool.{cond}
 use mathlib.Core.List.{List, [], _∷_, _++_}
@@ -60,9 +60,16 @@ unfoldable pub pointsText : ℕ → List Line → List ℕ
 pointsText p [] = []
 pointsText p (l ∷ ls) = pointText p l ++ pointsText (suc p) ls
 
+-- 02, Ticket 1: "a last line `total` with the eight columns"
+unfoldable pub totalText : Line → List ℕ
+totalText l = lineText (0x74 ∷ 0x6f ∷ 0x74 ∷ 0x61 ∷ 0x6c ∷ []) l
+
 -- the whole text
 unfoldable pub textOf : Statement → List ℕ
-textOf s = cond (eqb (s .number) 0) (monthText s ++ pointsText 0 (take (s .count) (s .lines))) (refusedText (s .number))
+textOf s =
+    cond (eqb (s .number) 0)
+    (monthText s ++ pointsText 0 (take (s .count) (s .lines)) ++ totalText (s .total))
+    (refusedText (s .number))
 
 -- a page of 2,048 bytes with this text at its start, and zeros behind it
 unfoldable pub pageOf : List ℕ → Page

@@ -1,4 +1,5 @@
-// The text of a statement, as document 01, "Statement", lays it out.
+// The text of a statement, as document 01, "Statement", lays it out, with the last line of document 02,
+// Ticket 1.
 use crate::Line;
 use crate::Page;
 use crate::Statement;
@@ -6,7 +7,7 @@ ghost use mathlib.Core.Path.{_≡_};
 ghost use Prim.Native.Nat.{_+_, _≤_};
 ghost use lib.ListN.{length, take};
 ghost use Rattle.statement_text.specs.Steps.{Behind};
-ghost use Rattle.statement_text.specs.Text.{refusedText, monthText, columnsText, ended, pointText, pointsText, textOf, pageOf};
+ghost use Rattle.statement_text.specs.Text.{refusedText, monthText, columnsText, ended, pointText, pointsText, totalText, textOf, pageOf};
 
 // The page that is printed for a statement.
 pub fn text_of(statement: Statement) -> Page
@@ -20,7 +21,8 @@ pub fn text_of(statement: Statement) -> Page
     }
     let lines = statement.lines;
     let first = month(blank, statement);
-    points(first, statement.count as usize, lines)
+    let above = points(first, statement.count as usize, lines);
+    total(above, statement.total)
 }
 
 // "refused N".
@@ -68,6 +70,15 @@ fn point(page: Page, number: usize, line: Line) -> Page
     ensures { λ r. ⌜ r .length ≤ page .length + 189 ⌝ }
 {
     columns(page.number(number as u64), line)
+}
+
+// The last line: "total", and the figures.
+fn total(page: Page, line: Line) -> Page
+    requires { ⌜ page .length + 174 ≤ 2048 ⌝ }
+    ensures { λ r. ⌜ Behind page (totalText line) r ⌝ }
+    ensures { λ r. ⌜ r .length ≤ page .length + 174 ⌝ }
+{
+    columns(page.word(b"total"), line)
 }
 
 // The eight columns behind the first word of a line, and the line's end.

@@ -29,8 +29,8 @@ pub const NO_FIGURES: Line = Line {
     debit: 0,
 };
 
-// What is to be printed: the number of a refusal; or 0, and the figures of the first line and of each
-// point. Beside a refusal the figures are 0.
+// What is to be printed: the number of a refusal; or 0, and the figures of the first line, of each
+// point and of the total. Beside a refusal the figures are 0.
 pub struct Statement {
     pub number: u32,
     pub year: u16,
@@ -39,4 +39,5 @@ pub struct Statement {
     pub entries: usize,
     pub count: u8,
     pub lines: [Line; 8],
+    pub total: Line,
 }

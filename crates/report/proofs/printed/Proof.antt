@@ -1,6 +1,7 @@
 -- `report::printed` meets its contract. Assumes nothing.
 use native.Mathlib.Omega.{arith}
 use borrow.Author.Needs.{needs}
+use Rattle.report.proofs.Adding.{posted-addable}
 use Rattle.report.proofs.Reporting.{too-much, shown}
 use Rattle.report.proofs.printed.Statement.{statement}
 use Rattle.report.proofs.printed.Tie as tie
@@ -26,7 +27,7 @@ number-requires : tie.Need-number-requires
 number-requires c κs = tt
 
 report-requires : tie.Need-report-requires
-report-requires c κs = tt
+report-requires c κs = posted-addable _ _ _ _ (c .before .before .before .post .ensures) (c .number .ensures)
 
 text-of-requires-2 : tie.Need-text-of-requires-2
 text-of-requires-2 c κs = tt

@@ -27,13 +27,17 @@ cast-points c = omega arith
 points-requires : tie.Need-points-requires
 points-requires c κs = omega arith
 
+total-requires : tie.Need-total-requires
+total-requires c κs = omega arith
+
 returns-2 : tie.Need-returns-2
 returns-2 c =
-    let start = c .before .before .before .before .before .before in
-    let blank = c .before .before .before .before .before .blank .ensures in
-    let month = c .before .before .month .ensures in
-    let points = c .points .ensures in
-    printed (blank .0) (month .0 then points .0) (omega arith) (whole (start .args .statement) (omega arith))
+    let start = c .before .before .before .before .before .before .before in
+    let blank = c .before .before .before .before .before .before .blank .ensures in
+    let month = c .before .before .before .month .ensures in
+    let points = c .before .points .ensures in
+    let total = c .total .ensures in
+    printed (blank .0) (month .0 then points .0 then total .0) (omega arith) (whole (start .args .statement) (omega arith))
 
 pub text-of-spec : {M : Type 1} → statement M
 text-of-spec =
@@ -45,4 +49,5 @@ text-of-spec =
     month-requires
     cast-points
     points-requires
+    total-requires
     returns-2)
