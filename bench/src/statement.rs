@@ -2,7 +2,7 @@
 use crate::book::{post, Book};
 use oracle::book::{Figures, PLACES};
 use oracle::statement::rappen;
-use std::fmt::Write;
+use std::fmt::{Display, Write};
 
 const INPUT_MOST: usize = 65_536;
 const JOURNAL: usize = 65_532;
@@ -25,14 +25,27 @@ fn posted(input: &[u8]) -> Result<(Book, [Figures; PLACES]), u32> {
     Ok((book, totals))
 }
 
-/// The month's line, and one for each point.
+/// The month's line, one for each point, and the total.
 fn lines(book: &Book, totals: &[Figures; PLACES]) -> String {
     let mut text = format!("{}-{:02} {} {}\n", book.year, book.month, book.quarters, book.entries.len());
+    let mut total = Figures::default();
     for (point, figures) in totals.iter().take(book.points.len()).enumerate() {
-        let [absolute, paid, free, billed, allowance, disconnected, credit, debit] = figures;
-        let (credit, debit) = (rappen(*credit), rappen(*debit));
-        writeln!(text, "{point} {absolute} {paid} {free} {billed} {allowance} {disconnected} {credit} {debit}")
-            .expect("a string takes any text");
+        let [absolute, paid, free, billed, allowance, disconnected, credit, debit] = *figures;
+        let printed = [absolute, paid, free, billed, allowance, disconnected, rappen(credit), rappen(debit)];
+        for (sum, figure) in total.iter_mut().zip(printed) {
+            *sum += figure;
+        }
+        add_line(&mut text, point, &printed);
     }
+    add_line(&mut text, "total", &total);
     text
+}
+
+/// A line's first word, and its columns.
+fn add_line(text: &mut String, first: impl Display, figures: &Figures) {
+    write!(text, "{first}").expect("a string takes any text");
+    for figure in figures {
+        write!(text, " {figure}").expect("a string takes any text");
+    }
+    text.push('\n');
 }

@@ -1,5 +1,5 @@
 // Runs the statement on cases of document 01 that its example does not show: each refusal that the
-// program can print, months of each length, the rounding of amounts, and the largest file.
+// program can print, months of each length, the rounding of amounts, their total, and the largest file.
 //
 // A case is a line with its label, and the text that the program would print. The file `stdout` has the
 // answers; docs/report_cases.md says where they come from.
@@ -9,6 +9,7 @@ use files::EMPTY_MONTH;
 use files::EXAMPLE;
 use files::HALF_RAPPEN;
 use files::LARGEST_HEAD;
+use files::TWO_HALVES;
 use libc::STDOUT_FILENO;
 use report::printed;
 
@@ -20,6 +21,7 @@ fn main() {
     show_entries();
     show_months();
     show(b"799,999 and 800,000", &HALF_RAPPEN);
+    show(b"half a rappen twice", &TWO_HALVES);
     show_largest();
 }
 

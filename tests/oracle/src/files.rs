@@ -25,6 +25,7 @@ pub fn all(seed: u64) -> Vec<Case> {
     cases.add_random("noise", 200, noise);
     cases.add_random("full", 24, full);
     cases.add("greatest amounts", greatest_amounts());
+    cases.add("totals", vec![two_halves().bytes(), eight_billed().bytes()]);
     cases.add_random("full, one entry wrong", 12, full_with_a_wrong_entry);
     cases.add_random("too long", 24, too_long);
     cases.list

@@ -36,6 +36,19 @@ pub fn example() -> File {
     File::new(2024, 2, points, entries.map(entry).to_vec())
 }
 
+/// Two points, each with a credit of half a rappen.
+pub fn two_halves() -> File {
+    let entries = [[0, 0, 1, 1, 500, 0, 22_000, 22_000], [1, 0, 1, 1, 500, 0, 22_000, 22_000]];
+    File::new(2024, 2, vec![active(0, 1, 0, 0); 2], entries.map(entry).to_vec())
+}
+
+/// Eight points at the highest tariffs, and as many entries as 65,536 bytes hold, each of the most energy and
+/// billed.
+pub fn eight_billed() -> File {
+    let made = |index: i64| entry([index % 8, index / 8, 1, 1, 1_000_000, 0, 0, 25_000]);
+    File::new(2024, 1, vec![active(0, 100_000, 100_000, 100_000); 8], (0..5_446).map(made).collect())
+}
+
 pub fn four_transformers() -> File {
     let point = semi_active(0, 99_999, 100_000, &[(4000, 20_000), (1, 1), (1200, 1), (3999, 19_999)]);
     let entries = [

@@ -1,5 +1,6 @@
-//! The text that the program `statement` prints for its standard input.
-use crate::book::{post, Book};
+//! The text that the program `statement` prints for its standard input, with the last line of document 02,
+//! Ticket 1.
+use crate::book::{post, Book, Figures};
 use crate::month_file::quarters;
 
 const INPUT_MOST: usize = 65_536;
@@ -16,20 +17,36 @@ pub fn text(input: &[u8]) -> String {
     }
 }
 
+/// The month's line, one for each point, and the total.
 fn lines(book: &Book) -> String {
     let count = quarters(book.year, book.month);
-    let mut text = format!("{}-{:02} {} {}\n", book.year, book.month, count, book.entries.len());
+    let first = format!("{}-{:02} {} {}\n", book.year, book.month, count, book.entries.len());
+    let mut points = String::new();
     for (point, figures) in book.totals().iter().take(book.points.len()).enumerate() {
-        text += &point.to_string();
-        for grains in &figures[..6] {
-            text += &format!(" {grains}");
+        let mut printed = *figures;
+        for amount in &mut printed[6..] {
+            *amount = rappen(*amount);
         }
-        for amount in &figures[6..] {
-            text += &format!(" {}", rappen(*amount));
-        }
-        text += "\n";
+        points += &line(&point.to_string(), &printed);
     }
-    text
+    first + &points + &line("total", &sums(&points))
+}
+
+/// A line's first word, and its columns.
+fn line(first: &str, figures: &Figures) -> String {
+    let columns: String = figures.iter().map(|figure| format!(" {figure}")).collect();
+    format!("{first}{columns}\n")
+}
+
+/// "Each figure is the sum of the figures printed above it": what a member adds up, read from the text.
+fn sums(points: &str) -> Figures {
+    let mut sums = Figures::default();
+    for line in points.lines() {
+        for (sum, figure) in sums.iter_mut().zip(line.split(' ').skip(1)) {
+            *sum += figure.parse::<i64>().expect("a printed figure");
+        }
+    }
+    sums
 }
 
 pub fn rappen(amount: i64) -> i64 {

@@ -1,17 +1,19 @@
-//! The oracle against what document 01 prints: its example, its edges, and the order of its numbers.
+//! The oracle against what document 01 prints, with 02's changes: its example, its edges, and the order of its
+//! numbers.
 use oracle::bits::{pack, unpack};
 use oracle::book::{open, post, Book};
 use oracle::month_file::{quarters, File, Header, HEADER};
 use oracle::quarter::{c_call, Quarter, Shares};
 use oracle::random::Random;
 use oracle::replay;
-use oracle::right_files::{active, entry, example, right_file, semi_active};
+use oracle::right_files::{active, eight_billed, entry, example, right_file, semi_active, two_halves};
 use oracle::statement::{rappen, text};
 
 const STATEMENT: &str = "\
 2024-02 2784 4
 0 4800000 3200000 0 1600000 0 0 600 1500
 1 2800000 0 0 1600000 1200000 0 0 1000
+total 7600000 3200000 0 3200000 1200000 0 600 2500
 ";
 
 #[test]
@@ -82,6 +84,23 @@ fn edges_of_a_semi_active_point() {
 #[test]
 fn rappen_are_rounded_at_the_half() {
     assert_eq!([0, 799_999, 800_000, 2_399_999, 2_400_000].map(rappen), [0, 0, 1, 1, 2]);
+}
+
+#[test]
+fn total_adds_the_rounded_lines() {
+    let halves = two_halves();
+    let book = post(&halves.bytes(), 24).book.expect("a right file");
+    assert_eq!(book.totals().map(|figures| figures[6])[..2], [800_000; 2]);
+    assert_eq!(rappen(800_000 + 800_000), 1);
+    assert!(text(&halves.bytes()).ends_with("\ntotal 1600000 1600000 0 0 0 0 2 0\n"));
+}
+
+#[test]
+fn total_of_eight_points_with_the_largest_figures() {
+    let grains = 5_446 * 1_000_000 * 1_600_i64;
+    let debit = 5_446 * 200_000_000_i64;
+    let last = format!("\ntotal {grains} 0 0 {grains} 0 0 0 {debit}\n");
+    assert!(text(&eight_billed().bytes()).ends_with(&last));
 }
 
 #[test]
