@@ -5,7 +5,7 @@ use mathlib.Core.List.{List, [], _∷_, _++_}
 use native.Mathlib.Numerals.{add-one}
 use native.Mathlib.Omega.{arith}
 use lib.ListN.{length, getD, take}
-use lib.Seq.{take-suc, take-all}
+use lib.Seq.{take-suc}
 use Rattle.statement_text.specs.declared.Line.{Line}
 use Rattle.worth.specs.Figures.{Column, Absolute, Paid, Free, Billed, Allowance, Disconnected, Credit, Debit}
 use Rattle.statement_total.specs.Total.{figureOf, lineWith, noFigures, sum, totalLine, Addable}
@@ -70,7 +70,3 @@ module _ (ls : List Line) (addable : Addable ls) where
 pub none-added : noFigures ≡ totalLine []
 unfolding totalLine sum
 none-added = refl
-
--- all of them, where more are counted than there are
-pub all-added : (ls : List Line) (t : Line) (i n : ℕ) → length ls ≤ i → i ≤ n → t ≡ totalLine (take i ls) → t ≡ totalLine (take n ls)
-all-added ls t i n h k e = rw (take-all n ls (omega arith)) (rw (take-all i ls h) at e)

@@ -30,6 +30,7 @@ lineWith n =
       debit = n Debit;
     }
 
+-- the line whose figures are all 0
 abbrev pub noFigures : Line
 noFigures = lineWith (λ c. 0)
 

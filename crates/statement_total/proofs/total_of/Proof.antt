@@ -1,10 +1,11 @@
 -- `statement_total::total_of` meets its contract. Assumes nothing.
 use Prim.Native.Nat.{ℕ, _-_, _≤_}
-use mathlib.Core.Path.{_≡_, ap, _∙_}
+use mathlib.Core.Path.{_≡_, sym, ap, _∙_}
 use native.Mathlib.Omega.{arith}
 use lib.ListN.{length, take}
+use lib.Seq.{take-all}
 use Rattle.statement_total.specs.Total.{totalLine}
-use Rattle.statement_total.proofs.Sums.{next-held, next-total, none-added, all-added}
+use Rattle.statement_total.proofs.Sums.{next-held, next-total, none-added}
 use Rattle.statement_total.proofs.total_of.Statement.{statement}
 use Rattle.statement_total.proofs.total_of.Tie as tie
 
@@ -56,7 +57,8 @@ returns-2 c =
     let start = c .before .before in
     let l = c .before .loop in
     let eight : length (start .args .t1) ≡ 8 = start .good .0 .1 .0 .1 in
-    all-added (start .args .t1) (l .total) (l .i) (start .args .count) (omega arith) (omega arith) (l .inv .1 .1)
+    let all = take-all (l .i) (start .args .t1) (omega arith) ∙ sym (take-all (start .args .count) (start .args .t1) (omega arith)) in
+    l .inv .1 .1 ∙ ap totalLine all
 
 pub total-of-spec : {M : Type 1} → statement M
 total-of-spec =
