@@ -6,9 +6,10 @@ use mathlib.Core.List.{List, [], _∷_}
 use native.Mathlib.Nat.{one-mul, mul-one, mul-comm, mul-assoc, add-mul, mul-add, mul-pos}
 use native.Mathlib.Omega.{arith}
 use lib.Dec.{lit<}
+use Rattle.quantity.specs.Fraction.{Fraction, sum}
 use Rattle.quarter.specs.declared.Transformer.{Transformer}
 use Rattle.quarter.specs.Reading.{band}
-use Rattle.quarter.specs.Source.{Fraction, sum, ΔWQTrafo, ΔWQlim}
+use Rattle.quarter.specs.Source.{ΔWQTrafo, ΔWQlim}
 use Rattle.quarter.specs.Agreement.{Exactly}
 
 one : (t : Transformer) → Exactly (t .uk * t .sn) (ΔWQTrafo t)

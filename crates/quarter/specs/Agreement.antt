@@ -3,6 +3,7 @@
 use Prim.Native.Nat.{ℕ, _+_, _*_, _≤_, _<_}
 use mathlib.Core.Path.{_≡_}
 use lib.IntN.{pos}
+use Rattle.quantity.specs.Fraction.{Fraction}
 use Rattle.quarter.specs.declared.Role.{Role}
 use Rattle.quarter.specs.declared.Role.the-variants.{Active, SemiActive}
 use Rattle.quarter.specs.declared.Level.{Level}
@@ -35,6 +36,6 @@ unfoldable pub total : Shares → ℕ
 total s = s .paid .0 + s .free .0 + s .billed .0 + s .allowance .0 + s .disconnected .0
 
 -- so many grains are a fraction of an Mvarh, exactly: 1 Mvarh is 1,000 kvarh of 1,600 grains
-pub record Exactly (n : ℕ) (q : Rattle.quarter.specs.Source.Fraction) : Type 0 where
+pub record Exactly (n : ℕ) (q : Fraction) : Type 0 where
   pub proper : 0 < q .under
   pub same : n * q .under ≡ 1600000 * q .over

@@ -7,6 +7,7 @@ use mathlib.Core.Bool.{Bool, true, false, cond, _&&_}
 use mathlib.Core.List.{List, [], _∷_}
 use lib.IntN.{ℤ, pos, natAbs, subℕ, _+ℤ_, _-ℤ_, _*ℤ_}
 use lib.Signed.{ltZ, leZ}
+use Rattle.quantity.specs.Fraction.{Fraction, ratio, product, sum}
 use Rattle.quantity.specs.Quantity.{perKvarh}
 use Rattle.quarter.specs.declared.Role.{Role}
 use Rattle.quarter.specs.declared.Role.the-variants.{Active, SemiActive}
@@ -144,20 +145,6 @@ VB role l m t = vergütet role l m *ℤ pos (t .payment)
 unfoldable pub RB : Role → Level → Metered → Tariffs → ℤ
 RB Active l m t = verrechnet Active l m *ℤ (pos (t .billing) +ℤ pos (t .penalty))
 RB (SemiActive b) l m t = verrechnet (SemiActive b) l m *ℤ pos (t .billing)
-
--- a fraction of whole numbers, with product and sum
-pub record Fraction : Type 0 where
-  pub over : ℕ
-  pub under : ℕ
-
-abbrev pub ratio : ℕ → ℕ → Fraction
-ratio a b = record { over = a; under = b }
-
-abbrev pub product : Fraction → Fraction → Fraction
-product p q = ratio (p .over * q .over) (p .under * q .under)
-
-abbrev pub sum : Fraction → Fraction → Fraction
-sum p q = ratio (p .over * q .under + q .over * p .under) (p .under * q .under)
 
 -- 4.2: "ΔW_Q,Trafo,i = 1/4 · u_k/100 · S_n · 0.25h" in Mvarh, u_k in % and S_n in MVA, of which 01's uk and Sn are hundredths
 -- and tenths

@@ -7,13 +7,13 @@ use borrow.Author.Tests.{eqb-true}
 use lib.Dec.{leb, eqb}
 use Rattle.refusals.proofs.Tests.{both}
 use Rattle.quantity.specs.declared.Grains.{Grains}
+use Rattle.quantity.specs.Fraction.{Fraction}
 use Rattle.quantity.specs.Quantity.{grains}
 use Rattle.quarter.specs.declared.Role.the-variants.{Active, SemiActive}
 use Rattle.quarter.specs.declared.Metered.{Metered}
 use Rattle.quarter.specs.declared.Tariffs.{Tariffs}
 use Rattle.quarter.specs.Reading.{band}
 use Rattle.quarter.specs.Ranges.{tariffsInRange}
-use Rattle.quarter.specs.Source.{Fraction}
 use Rattle.quarter.specs.Agreement.{Exactly, Lawful}
 use Rattle.quarter.proofs.Agreement.{agrees}
 use Rattle.quarter.proofs.Band.{band-exact}
