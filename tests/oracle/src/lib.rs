@@ -1,6 +1,7 @@
-//! Document 01 once more, in plain Rust and from the document alone, to hold the programs and the C
-//! call against. Nothing here is taken from the library: fields are cut out of binary digits, the
-//! journal is a list, voltages and energies are signed numbers, and sums are made afresh each time.
+//! Documents 01 and 02 once more, in plain Rust and from the documents alone, to hold the programs and the C
+//! calls against. Nothing here is taken from the library: fields are cut out of binary digits, the
+//! journal is a list, voltages and energies are signed numbers, sums are made afresh each time, and the
+//! formulas of 001 are worked out in fractions.
 //!
 //! The tests look for the programs and the archive in the folder that the environment variable
 //! REACTIVE_TARGET names, else in the repository's `target`. ORACLE_SEED replaces the seed.
@@ -11,7 +12,9 @@ pub mod bounds;
 pub mod call_lists;
 pub mod cases;
 pub mod files;
+pub mod fraction;
 pub mod held;
+pub mod low_side;
 pub mod month_file;
 pub mod quarter;
 pub mod random;

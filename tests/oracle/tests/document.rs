@@ -1,7 +1,8 @@
 //! The oracle against what document 01 prints, with 02's changes: its example, its edges, and the order of its
-//! numbers.
+//! numbers; and against losses of the low side worked out by hand.
 use oracle::bits::{pack, unpack};
 use oracle::book::{open, post, Book};
+use oracle::low_side::{self, LowSide};
 use oracle::month_file::{quarters, File, Header, HEADER};
 use oracle::quarter::{c_call, Quarter, Shares};
 use oracle::random::Random;
@@ -207,6 +208,72 @@ fn replay_ends_at_what_is_no_whole_call() {
     let totals = format!("totals 0 1\n0 3200000 3200000 0 0 0 0 960000000 0\n{nothing}");
     let expected = format!("open 0\ndeliver 0\ndeliver 9\ndeliver 5\n{totals}close 0\ntake_back 8\n");
     assert_eq!(replay::text(&input), expected);
+}
+
+/// The number answered, take and supply.
+fn high_side(numbers: [i64; 6]) -> [u32; 3] {
+    let high = LowSide::of(numbers).high_side();
+    [high.number, high.take, high.supply]
+}
+
+#[test]
+fn high_side_is_minus_the_low_side_and_the_loss() {
+    // 24,000 kW and 32,000 kvar are 40,000 kVA, which is Sn. uR is 2,400 kW of it, 6 %, so that uk, 10 %, leaves 8 %.
+    // With i0, 0.25 %, the loss is 8.25 % of 40,000 kVA: 3,300 kvar, in a quarter-hour 825 kvarh.
+    assert_eq!(high_side([6_000, 8_000, 400, 1_000, 25, 2_400]), [0, 0, 8_000 - 825]);
+    assert_eq!(high_side([-6_000, -8_000, 400, 1_000, 25, 2_400]), [0, 8_000 + 825, 0]);
+    // i0 is 0.25 % of 40,000 kVA: 100 kvar, 25 kvarh. The root adds less than 0.01 kvarh.
+    for (reactive, take, supply) in [(-1, 26, 0), (0, 25, 0), (24, 1, 0), (25, 0, 0), (26, 0, 1)] {
+        assert_eq!(high_side([0, reactive, 400, 1_000, 25, 2_400]), [0, take, supply], "{reactive} kvarh");
+    }
+}
+
+#[test]
+fn root_is_of_an_exact_ur() {
+    // In millionths uk is 262,500 and uR 10,000 · 490 / 19 = 257,894.7... Both and the root are taken times 19.
+    let low = LowSide::of([0, 535, 19, 2_625, 0, 490]);
+    let most = 4_987_500_i64.pow(2) - 4_900_000_i64.pow(2);
+    assert_eq!(low.root(), 48_954);
+    assert!((19 * 48_954_i64).pow(2) <= most && most < (19 * 48_955_i64).pow(2));
+    // uR rounded down leaves more.
+    let rounded = 262_500_i64.pow(2) - 257_894_i64.pow(2);
+    assert!(48_958_i64.pow(2) <= rounded && rounded < 48_959_i64.pow(2));
+    // 2,140 kvar squared over 1,900 kVA, times the root, over 4: 29.4987 kvarh, and with the other root 29.5011.
+    assert_eq!([48_954, 48_955, 48_958].map(|root| low.loss(root)), [29, 29, 30]);
+    assert_eq!(high_side([0, 535, 19, 2_625, 0, 490]), [0, 0, 535 - 29]);
+}
+
+#[test]
+fn loss_is_rounded_once_halves_up() {
+    // 0.01 % of 19,900 and of 20,000 kVA: 1.99 and 2 kvar, 0.4975 and 0.5 kvarh.
+    assert_eq!(high_side([0, 0, 199, 100, 1, 0]), [0, 0, 0]);
+    assert_eq!(high_side([0, 0, 200, 100, 1, 0]), [0, 1, 0]);
+    // 120 kW and 160 kvar are 200 kVA, twice Sn: four times uk, 0.5 %, of 100 kVA is 2 kvar, 0.5 kvarh.
+    assert_eq!(high_side([30, 40, 1, 50, 0, 0]), [0, 0, 39]);
+    assert_eq!(high_side([30, -40, 1, 50, 0, 0]), [0, 41, 0]);
+    // With i0, 2 %, it is 1 kvarh and not twice a half rounded up; 0.4 and 0.4 kvarh are rounded up.
+    assert_eq!(high_side([30, 40, 1, 50, 200, 0]), [0, 0, 39]);
+    assert_eq!(high_side([30, 40, 1, 40, 160, 0]), [0, 0, 39]);
+}
+
+#[test]
+fn low_side_is_refused_past_the_limits() {
+    // 600,000 kW and 800,000 kvar are 1,000,000 kVA, twice Sn: four times 10 % of 500,000 kVA, over 4, is 50,000 kvarh.
+    assert_eq!(high_side([150_000, 200_000, 5_000, 1_000, 0, 0]), [0, 0, 150_000]);
+    assert_eq!(high_side([150_000, 200_001, 5_000, 1_000, 0, 0]), [15, 0, 0]);
+    // uR is 4,000 kW of 50,000 kVA, 8 %.
+    assert_eq!(high_side([1_000, 2_000, 500, 800, 0, 4_000]), [0, 0, 2_000]);
+    assert_eq!(high_side([1_000, 2_000, 500, 799, 0, 4_000]), [15, 0, 0]);
+    assert_eq!(high_side([1_000, 2_000, 500, 799, 0, 4_001]), [14, 0, 0], "before implausible");
+    assert_eq!(high_side([300_000, 0, 5_000, 1_000, 0, 0]), [15, 0, 0]);
+    assert_eq!(high_side([300_001, 0, 5_000, 1_000, 0, 0]), [14, 0, 0], "before implausible");
+}
+
+#[test]
+fn cases_of_the_low_side_are_six_numbers_each() {
+    let cases = "# 0 0\n6000 8000 400 1000 25 2400 # 825\n\t-6000\n-8000 400 1000 25 2400 0 0 0 0 0 0 1 2 3 4 5#6\n";
+    assert_eq!(low_side::text(cases), "0 0 7175\n0 8825 0\n14 0 0\n");
+    assert_eq!(low_side::text(""), "");
 }
 
 #[test]
