@@ -1,6 +1,6 @@
-//! The answers that the programs `book_cases` and `posting_cases` are held to against those of the oracle,
-//! case by case.
-use oracle::cases::text;
+//! The answers that the programs `book_cases`, `posting_cases` and `low_side_cases` are held to against those of
+//! the oracle, case by case.
+use oracle::{cases, low_side};
 use std::fs::read_to_string;
 use std::path::Path;
 
@@ -52,27 +52,30 @@ const POSTING_ANSWERS: [&str; 19] = [
     "write 13 0",
 ];
 
+/// Every number of the low side, the first beside take, supply and neither.
+const LOW_SIDE_ANSWERS: [&str; 5] = ["0 4350 0", "0 0 3650", "0 0 0", "14 0 0", "15 0 0"];
+
 #[test]
 fn stored_answers_are_as_the_oracle_has_them() {
-    compare("book_cases", &ANSWERS);
-    compare("posting_cases", &POSTING_ANSWERS);
+    compare("book_cases", cases::text, &ANSWERS);
+    compare("posting_cases", cases::text, &POSTING_ANSWERS);
+    compare("low_side_cases", low_side::text, &LOW_SIDE_ANSWERS);
 }
 
-/// Compares the stored answers of a program with those due for its text, and finds each answer in them.
-fn compare(program: &str, answers: &[&str]) {
+/// Compares the stored answers of a program with those due for its text, and finds each answer in a case.
+fn compare(program: &str, text: fn(&str) -> String, answers: &[&str]) {
     let folder = Path::new(env!("CARGO_MANIFEST_DIR")).join("../../crates").join(program);
     let read = |name: &str| read_to_string(folder.join(name)).unwrap_or_else(|error| panic!("{name}: {error}"));
     let due = text(&read("stdin"));
     let stored = read("stdout");
-    for (due, stored) in due.lines().zip(stored.lines()) {
-        assert_eq!(stored, due, "a case of crates/{program}/stdout");
+    for (line, (due, stored)) in due.lines().zip(stored.lines()).enumerate() {
+        assert_eq!(stored, due, "line {} of crates/{program}/stdout", line + 1);
     }
     assert!(stored == due, "crates/{program}/stdout has other lines than the cases of stdin");
     assert!(!due.contains('?'), "a command that is none");
-    let words: Vec<&str> = due.split_whitespace().collect();
     for answer in answers {
-        let answered: Vec<&str> = answer.split(' ').collect();
-        assert!(words.windows(answered.len()).any(|words| words == answered), "no call answers {answer}");
+        let answered = format!(" {answer} ");
+        assert!(due.lines().any(|line| format!(" {line} ").contains(&answered)), "no call answers {answer}");
     }
     println!("oracle: {program}: {} cases", due.lines().count());
 }
