@@ -1,0 +1,6 @@
+pub mod Surd
+pub mod Source
+pub mod Greatest
+pub mod LowSide
+pub mod Numbers
+pub mod Claims
