@@ -1,3 +1,4 @@
 mod Asking
+mod LowSide
 mod QuarterHour
 mod Shares

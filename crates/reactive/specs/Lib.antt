@@ -1,2 +1,3 @@
 pub mod QuarterHour
+pub mod LowSide
 pub mod Measured
