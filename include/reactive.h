@@ -1,4 +1,5 @@
-/* The classification of one quarter-hour of reactive energy, as a C program calls it.
+/* The classification of one quarter-hour of reactive energy, and the conversion of one that is metered
+ * on the low-voltage side, as a C program calls them.
  * Link the archive that `rt staticlib reactive` writes, target/staticlib/libreactive.a. */
 #ifndef REACTIVE_H
 #define REACTIVE_H
@@ -10,10 +11,16 @@
 extern "C" {
 #endif
 
-/* What reactive_classify answers. */
-#define REACTIVE_ACCEPTED 0u     /* the shares are in the slice */
-#define REACTIVE_OUT_OF_RANGE 5u /* an argument is out of its range; the slice is as it was */
-#define REACTIVE_TOO_SHORT 13u   /* the slice has under 40 bytes, and is as it was */
+/* What both calls answer if they give what was asked for. */
+#define REACTIVE_ACCEPTED 0u
+
+/* What else reactive_classify answers; the slice is as it was. */
+#define REACTIVE_OUT_OF_RANGE 5u /* an argument is out of its range */
+#define REACTIVE_TOO_SHORT 13u   /* the slice has under 40 bytes */
+
+/* What else reactive_low_side answers; take and supply are as they were. */
+#define REACTIVE_FIELD_OUT_OF_RANGE 14u /* an argument is out of its range */
+#define REACTIVE_IMPLAUSIBLE 15u /* uk is below uR, or the apparent power is above twice Sn */
 
 /* The bytes that the five shares take. */
 #define REACTIVE_SHARES_SIZE 40
@@ -37,6 +44,27 @@ extern "C" {
 uint32_t reactive_classify(uint32_t role, uint32_t level, uint32_t band, uint32_t lamp,
                            uint32_t take, uint32_t supply, uint32_t actual, uint32_t set,
                            uint8_t *shares, size_t shares_len);
+
+/* The reactive energy on the high side of a transformer whose quarter-hour is metered on the
+ * low-voltage side: minus the reactive energy there, plus the loss, which is rounded to the nearest
+ * kvarh, halves up. It is the take of an entry if positive, else the supply.
+ *
+ *   active                  active energy in kWh, -300,000 to 300,000
+ *   reactive                reactive energy in kvarh, -300,000 to 300,000. Both energies are positive
+ *                           towards the transformer
+ *   rated_power             Sn in 0.1 MVA, 1 to 5,000
+ *   short_circuit_voltage   uk in 0.01 %, 1 to 4,000
+ *   no_load_current         i0 in 0.01 %, 0 to 4,000
+ *   copper_losses           in kW, 0 to 4,000. uR is these over Sn
+ *   take, supply            get the energies taken from and supplied to the grid, in kvarh, at most
+ *                           500,000 and 250,000. One of them is 0. The two must be different
+ *
+ * uk may equal uR, and the apparent power, that of four times the energies, may equal twice Sn. An
+ * argument out of range is found before what is implausible. A refusal leaves both numbers as they
+ * were. */
+uint32_t reactive_low_side(int32_t active, int32_t reactive, uint32_t rated_power,
+                           uint32_t short_circuit_voltage, uint32_t no_load_current,
+                           uint32_t copper_losses, uint32_t *take, uint32_t *supply);
 
 #ifdef __cplusplus
 }
