@@ -1,4 +1,4 @@
-//! Tells the linker where the archive of the crate `reactive` lies, for tests/c_call.rs.
+//! Tells the linker where the archive of the crate `reactive` lies, for the tests that call it.
 use std::env;
 use std::path::PathBuf;
 

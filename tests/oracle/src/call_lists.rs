@@ -97,7 +97,8 @@ fn list(random: &mut Random, plan: &Plan) -> Vec<u8> {
     input
 }
 
-fn start(file: &[u8], journal: usize) -> Vec<u8> {
+/// What stands before the calls.
+pub fn start(file: &[u8], journal: usize) -> Vec<u8> {
     [&(file.len() as u32).to_be_bytes(), file, &(journal as u32).to_be_bytes()].concat()
 }
 
