@@ -10,7 +10,8 @@ use Rattle.refusals.proofs.Tests.{both, each, neither}
 use Rattle.transformer.specs.declared.LowSide.{LowSide}
 use Rattle.transformer.specs.declared.DataSheet.{DataSheet}
 use Rattle.transformer.specs.LowSide.{energyInRange, sheetInRange, inRange, ukBelowUR, overloaded, number}
-use Rattle.transformer.proofs.Reduced.{squares, power-reduced}
+use Rattle.transformer.specs.Steps.{squaredEnergy}
+use Rattle.transformer.proofs.Reduced.{power-reduced}
 
 -- the ranges of a data sheet
 pub record Sheet (t : DataSheet) : Type 0 where
@@ -53,7 +54,7 @@ tested low t a b e f = rw (e, f)
 pub record Accepted (low : LowSide) (t : DataSheet) : Type 0 where
   pub ranges : sheetInRange t ≡ true
   pub above : ukBelowUR t ≡ false
-  pub load : squares low ≤ 50 * t .sn * (50 * t .sn)
+  pub load : squaredEnergy low ≤ 50 * t .sn * (50 * t .sn)
 
 pub accepted : (low : LowSide) (t : DataSheet) → number low t ≡ 0 → Accepted low t
 unfolding number
@@ -63,5 +64,5 @@ accepted low t e =
     record {
       ranges = of-all low t (not-false (inRange low t) (k .0));
       above = two .0;
-      load = ltb-false (50 * t .sn * (50 * t .sn)) (squares low) (sym (power-reduced low t) ∙ two .1);
+      load = ltb-false (50 * t .sn * (50 * t .sn)) (squaredEnergy low) (sym (power-reduced low t) ∙ two .1);
     }

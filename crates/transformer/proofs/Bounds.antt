@@ -12,7 +12,8 @@ use Rattle.quantity.specs.Fraction.{ratio, nearest}
 use Rattle.transformer.specs.declared.LowSide.{LowSide}
 use Rattle.transformer.specs.declared.DataSheet.{DataSheet}
 use Rattle.transformer.specs.LowSide.{ukBelowUR, number, root, loss}
-use Rattle.transformer.proofs.Reduced.{squares, radicand, uk-reduced, loss-reduced}
+use Rattle.transformer.specs.Steps.{squaredEnergy}
+use Rattle.transformer.proofs.Reduced.{radicand, uk-reduced, loss-reduced}
 use Rattle.transformer.proofs.Roots.{square-lt, root-most}
 use Rattle.transformer.proofs.Accepted.{Sheet, sheet, accepted}
 
@@ -59,7 +60,7 @@ module _ (low : LowSide) (t : DataSheet) (e : number low t ≡ 0) where
   pub ranges : Sheet t
   ranges = sheet t (accepted low t e .ranges)
 
-  pub squares-most : squares low ≤ 62500000000
+  pub squares-most : squaredEnergy low ≤ 62500000000
   squares-most =
       let side : 50 * t .sn ≤ 250000 = omega (arith, ranges .power) in
       omega (arith, accepted low t e .load, mul-le-mul side side)
@@ -68,15 +69,15 @@ module _ (low : LowSide) (t : DataSheet) (e : number low t ≡ 0) where
   root-fits = omega (arith, root-most t (ranges .some), ranges .voltage)
 
   -- the loss is at most half a kvarh from the fraction that it is rounded from
-  pub loss-lower : 2 * (25000000 * t .sn) * loss low t ≤ 2 * (squares low * root t + 62500 * t .i0 * t .sn * t .sn) + 25000000 * t .sn
+  pub loss-lower : 2 * (25000000 * t .sn) * loss low t ≤ 2 * (squaredEnergy low * root t + 62500 * t .i0 * t .sn * t .sn) + 25000000 * t .sn
   loss-lower =
       rw (loss-reduced low t (ranges .some))
-      (nearest-lower (squares low * root t + 62500 * t .i0 * t .sn * t .sn) (25000000 * t .sn))
+      (nearest-lower (squaredEnergy low * root t + 62500 * t .i0 * t .sn * t .sn) (25000000 * t .sn))
 
-  pub loss-upper : 2 * (squares low * root t + 62500 * t .i0 * t .sn * t .sn) + 25000000 * t .sn < 2 * (25000000 * t .sn) * (loss low t + 1)
+  pub loss-upper : 2 * (squaredEnergy low * root t + 62500 * t .i0 * t .sn * t .sn) + 25000000 * t .sn < 2 * (25000000 * t .sn) * (loss low t + 1)
   loss-upper =
       rw (loss-reduced low t (ranges .some))
-      (nearest-upper (squares low * root t + 62500 * t .i0 * t .sn * t .sn) (25000000 * t .sn) (omega (arith, ranges .some)))
+      (nearest-upper (squaredEnergy low * root t + 62500 * t .i0 * t .sn * t .sn) (25000000 * t .sn) (omega (arith, ranges .some)))
 
   -- 50 times Sn at most
   pub loss-most : loss low t ≤ 250000
@@ -85,7 +86,7 @@ module _ (low : LowSide) (t : DataSheet) (e : number low t ≡ 0) where
       go : (b : Bool) → leb (loss low t) (50 * t .sn) ≡ b → loss low t ≤ 250000
       go true h = omega (arith, leb-true (loss low t) (50 * t .sn) h, ranges .power)
       go false h =
-          let load : squares low * root t ≤ 50 * t .sn * (50 * t .sn) * 400000 = mul-le-mul (accepted low t e .load) root-fits in
+          let load : squaredEnergy low * root t ≤ 50 * t .sn * (50 * t .sn) * 400000 = mul-le-mul (accepted low t e .load) root-fits in
           let idle : t .i0 * (t .sn * t .sn) ≤ 4000 * (t .sn * t .sn) = mul-le-mul-right (t .sn * t .sn) (ranges .current) in
           let more : 2 * (25000000 * t .sn) * (50 * t .sn + 1) ≤ 2 * (25000000 * t .sn) * loss low t =
           mul-le-mul-left (2 * (25000000 * t .sn)) (omega (arith, leb-false (loss low t) (50 * t .sn) h))
@@ -93,7 +94,7 @@ module _ (low : LowSide) (t : DataSheet) (e : number low t ≡ 0) where
           absurd (omega (arith, loss-lower, ranges .some))
 
 -- the loss, from what its parts are found to be
-pub loss-found : (low : LowSide) (t : DataSheet) → number low t ≡ 0 → (n r x : ℕ) → n ≡ squares low → r ≡ root t
+pub loss-found : (low : LowSide) (t : DataSheet) → number low t ≡ 0 → (n r x : ℕ) → n ≡ squaredEnergy low → r ≡ root t
     → x ≡ nearest (ratio (n * r + 62500 * t .i0 * t .sn * t .sn) (25000000 * t .sn))
     → (x ≡ loss low t) × (x ≤ 250000)
 loss-found low t e n r x en er ex = (found, subst (λ (i : ℕ). i ≤ 250000) (sym found) (loss-most low t e))

@@ -13,7 +13,7 @@ use Rattle.transformer.specs.declared.DataSheet.{DataSheet}
 use Rattle.transformer.specs.Source.{QOS}
 use Rattle.transformer.specs.LowSide.{number, loss, highSide, entered, converted}
 use Rattle.transformer.specs.Claims.{FitsAnEntry}
-use Rattle.transformer.proofs.Reduced.{squares}
+use Rattle.transformer.specs.Steps.{squaredEnergy}
 use Rattle.transformer.proofs.Roots.{square-lt}
 use Rattle.transformer.proofs.Bounds.{squares-most, loss-most}
 use Rattle.transformer.proofs.Signs.{enters-negative, enters-take, enters-supply}
@@ -23,7 +23,7 @@ abbrev Small : ℕ × ℕ → Type 0
 Small e = (e .0 ≤ 1000000) × ((e .1 ≤ 1000000) × ((e .0 ≡ 0) ⊎ (e .1 ≡ 0)))
 
 -- 15 keeps the reactive energy so small
-reactive-most : (low : LowSide) → squares low ≤ 62500000000 → natAbs (low .reactive) ≤ 250000
+reactive-most : (low : LowSide) → squaredEnergy low ≤ 62500000000 → natAbs (low .reactive) ≤ 250000
 reactive-most low h = go (leb (natAbs (low .reactive)) 250000) refl
   where
     go : (b : Bool) → leb (natAbs (low .reactive)) 250000 ≡ b → natAbs (low .reactive) ≤ 250000

@@ -11,7 +11,8 @@ use Rattle.transformer.specs.Source.{QV, lostEnergy}
 use Rattle.transformer.specs.LowSide.{number, root, loss}
 use Rattle.transformer.specs.Claims.{LessThanOne}
 use Rattle.transformer.proofs.Reducing.{Reduces, itself, reduces-product, reduces-sum, reduces-difference, same-order}
-use Rattle.transformer.proofs.Reduced.{squares, radicand, radicand-reduced, rational-reduced, factor-reduced}
+use Rattle.transformer.specs.Steps.{squaredEnergy}
+use Rattle.transformer.proofs.Reduced.{radicand, radicand-reduced, rational-reduced, factor-reduced}
 use Rattle.transformer.proofs.Roots.{root-lower, root-upper}
 use Rattle.transformer.proofs.Accepted.{accepted}
 use Rattle.transformer.proofs.Bounds.{ranges, loss-lower, loss-upper}
@@ -60,19 +61,19 @@ module _ (low : LowSide) (t : DataSheet) (e : number low t ≡ 0) where
   below : surdBelow (lostEnergy low t) (whole (loss low t + 1)) ≡ true
   below =
       same-below (lostEnergy low t .rational) (lostEnergy low t .factor) (lostEnergy low t .radicand)
-      (ratio (t .i0 * t .sn) 400) (ratio (squares low) (25 * t .sn)) (ratio (radicand t) (1000000000000 * (t .sn * t .sn)))
+      (ratio (t .i0 * t .sn) 400) (ratio (squaredEnergy low) (25 * t .sn)) (ratio (radicand t) (1000000000000 * (t .sn * t .sn)))
       (rational-reduced low t some) (factor-reduced low t some) radicand-reduces (whole (loss low t + 1))
-      ∙ is-below (t .sn) (squares low) (radicand t) (root t) (t .i0) (loss low t)
+      ∙ is-below (t .sn) (squaredEnergy low) (radicand t) (root t) (t .i0) (loss low t)
       some (ranges low t e .power) (accepted low t e .load) (root-lower t some) (root-upper t some)
       (loss-lower low t e) (loss-upper low t e)
 
   above : belowSurd (whole (loss low t)) (plus (lostEnergy low t) (whole 1)) ≡ true
   above =
       same-above (sum (lostEnergy low t .rational) (whole 1)) (lostEnergy low t .factor) (lostEnergy low t .radicand)
-      (sum (ratio (t .i0 * t .sn) 400) (whole 1)) (ratio (squares low) (25 * t .sn)) (ratio (radicand t) (1000000000000 * (t .sn * t .sn)))
+      (sum (ratio (t .i0 * t .sn) 400) (whole 1)) (ratio (squaredEnergy low) (25 * t .sn)) (ratio (radicand t) (1000000000000 * (t .sn * t .sn)))
       (reduces-sum (lostEnergy low t .rational) (whole 1) (ratio (t .i0 * t .sn) 400) (whole 1) (rational-reduced low t some) (itself (whole 1)))
       (factor-reduced low t some) radicand-reduces (whole (loss low t))
-      ∙ is-above (t .sn) (squares low) (radicand t) (root t) (t .i0) (loss low t)
+      ∙ is-above (t .sn) (squaredEnergy low) (radicand t) (root t) (t .i0) (loss low t)
       some (ranges low t e .power) (accepted low t e .load) (root-lower t some) (root-upper t some)
       (loss-lower low t e) (loss-upper low t e)
 

@@ -6,16 +6,14 @@ use native.Mathlib.Nat.{mul-pos}
 use native.Mathlib.Omega.{arith}
 use lib.Dec.{ltb}
 use lib.IntN.{natAbs}
-use Rattle.quantity.specs.Fraction.{Fraction, ratio, product, sum, isBelow, nearest}
+use Rattle.quantity.specs.Fraction.{Fraction, ratio, product, sum, isBelow}
 use Rattle.transformer.specs.declared.LowSide.{LowSide}
 use Rattle.transformer.specs.declared.DataSheet.{DataSheet}
 use Rattle.transformer.specs.Source.{PUS, QUS, SN, PCuN, uK, i0, uR, εCC², QV, lostEnergy}
 use Rattle.transformer.specs.LowSide.{ukBelowUR, overloaded, millionths, passes, root, loss}
+use Rattle.transformer.specs.Steps.{squaredEnergy}
+use Rattle.transformer.specs.Claims.{LossReduced}
 use Rattle.transformer.proofs.Reducing.{Reduces, same-test, itself, reduces-product, reduces-sum, same-nearest}
-
--- P² + Q² of the energies
-abbrev pub squares : LowSide → ℕ
-squares low = natAbs (low .active) * natAbs (low .active) + natAbs (low .reactive) * natAbs (low .reactive)
 
 -- the square of Sn times the root, in millionths
 abbrev pub radicand : DataSheet → ℕ
@@ -29,17 +27,17 @@ uk-reduced t =
     (t .uk * (1 * (100 * t .sn))) (t .copper * 1 * 10000) (omega arith) (omega arith) (omega arith)
 
 -- the apparent power exceeds twice Sn
-pub power-reduced : (low : LowSide) (t : DataSheet) → overloaded low t ≡ ltb (50 * t .sn * (50 * t .sn)) (squares low)
+pub power-reduced : (low : LowSide) (t : DataSheet) → overloaded low t ≡ ltb (50 * t .sn * (50 * t .sn)) (squaredEnergy low)
 unfolding overloaded SN PUS QUS
 power-reduced low t =
     let p = natAbs (low .active) in
     let q = natAbs (low .reactive) in
-    same-test 16 (50 * t .sn * (50 * t .sn)) (squares low)
+    same-test 16 (50 * t .sn * (50 * t .sn)) (squaredEnergy low)
     (2 * (100 * t .sn) * (2 * (100 * t .sn)) * 1) ((4 * p * (4 * p) * 1 + 4 * q * (4 * q) * 1) * 1)
     (omega arith) (omega arith) (omega arith)
 
 -- both, as the code tests them
-pub implausible : (low : LowSide) (t : DataSheet) (n : ℕ) → n ≡ squares low
+pub implausible : (low : LowSide) (t : DataSheet) (n : ℕ) → n ≡ squaredEnergy low
     → (ltb (t .uk * t .sn) (100 * t .copper) || ltb (50 * t .sn * (50 * t .sn)) n) ≡ (ukBelowUR t || overloaded low t)
 implausible low t n e = rw (e, uk-reduced t, power-reduced low t)
 
@@ -76,7 +74,7 @@ module _ (low : LowSide) (t : DataSheet) (h : 0 < t .sn) where
       }
 
   -- the factor that the root is taken by
-  pub factor-reduced : Reduces (lostEnergy low t .factor) (ratio (squares low) (25 * t .sn))
+  pub factor-reduced : Reduces (lostEnergy low t .factor) (ratio (squaredEnergy low) (25 * t .sn))
   unfolding lostEnergy QV PUS QUS SN i0
   factor-reduced =
       record {
@@ -86,15 +84,16 @@ module _ (low : LowSide) (t : DataSheet) (h : 0 < t .sn) where
         under = omega arith;
       }
 
-  -- the loss, from the root: a fraction with as little over and under its line as the code has
-  pub loss-reduced : loss low t ≡ nearest (ratio (squares low * root t + 62500 * t .i0 * t .sn * t .sn) (25000000 * t .sn))
-  unfolding loss
-  loss-reduced =
-      let r = ratio (root t) 1000000 in
-      let load = product (ratio (squares low) (25 * t .sn)) r in
-      same-nearest (sum (lostEnergy low t .rational) (product (lostEnergy low t .factor) r)) (sum (ratio (t .i0 * t .sn) 400) load)
-      (reduces-sum (lostEnergy low t .rational) (product (lostEnergy low t .factor) r) (ratio (t .i0 * t .sn) 400) load
-      rational-reduced
-      (reduces-product (lostEnergy low t .factor) r (ratio (squares low) (25 * t .sn)) r factor-reduced (itself r)))
-      ∙ same-nearest (sum (ratio (t .i0 * t .sn) 400) load) (ratio (squares low * root t + 62500 * t .i0 * t .sn * t .sn) (25000000 * t .sn))
-      (record { by = 400; positive = omega arith; over = omega arith; under = omega arith })
+-- the loss: a fraction with as little over and under its line as the code has
+pub loss-reduced : LossReduced
+unfolding loss
+loss-reduced low t h =
+    let r = ratio (root t) 1000000 in
+    let load = product (ratio (squaredEnergy low) (25 * t .sn)) r in
+    same-nearest (sum (lostEnergy low t .rational) (product (lostEnergy low t .factor) r)) (sum (ratio (t .i0 * t .sn) 400) load)
+    (reduces-sum (lostEnergy low t .rational) (product (lostEnergy low t .factor) r) (ratio (t .i0 * t .sn) 400) load
+    (rational-reduced low t h)
+    (reduces-product (lostEnergy low t .factor) r (ratio (squaredEnergy low) (25 * t .sn)) r (factor-reduced low t h) (itself r)))
+    ∙ same-nearest (sum (ratio (t .i0 * t .sn) 400) load)
+    (ratio (squaredEnergy low * root t + 62500 * t .i0 * t .sn * t .sn) (25000000 * t .sn))
+    (record { by = 400; positive = omega arith; over = omega arith; under = omega arith })

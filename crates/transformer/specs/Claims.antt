@@ -1,11 +1,12 @@
 -- What is claimed of 02's conversion: against source document 001, and for the entry that it ends up in. Assumes nothing.
-use Prim.Native.Nat.{ℕ, _+_, _≤_, _<_}
+use Prim.Native.Nat.{ℕ, _+_, _*_, _≤_, _<_}
 use mathlib.Core.Logic.{_⊎_}
 use mathlib.Core.Path.{_≡_}
 use mathlib.Core.Bool.{true}
-use Rattle.quantity.specs.Fraction.{Fraction, whole, square, isBelow}
+use Rattle.quantity.specs.Fraction.{Fraction, ratio, whole, square, isBelow, nearest}
 use Rattle.transformer.specs.declared.LowSide.{LowSide}
 use Rattle.transformer.specs.declared.DataSheet.{DataSheet}
+use Rattle.transformer.specs.Steps.{squaredEnergy}
 use Rattle.transformer.specs.Surd.{surd, plus, withRoot, surdBelow, belowSurd}
 use Rattle.transformer.specs.Source.{lostEnergy}
 use Rattle.transformer.specs.LowSide.{number, passes, root, loss, converted}
@@ -17,6 +18,13 @@ pub record Greatest (t : DataSheet) : Type 0 where
 
 abbrev pub RootIsGreatest : Type 0
 RootIsGreatest = (t : DataSheet) → 0 < t .sn → Greatest t
+
+-- the loss in whole numbers, as the code works it out: what `loss` has from 001's own formula, with the root in millionths and
+-- rounded once, is this fraction, rounded once
+abbrev pub LossReduced : Type 0
+LossReduced =
+    (low : LowSide) (t : DataSheet) → 0 < t .sn
+    → loss low t ≡ nearest (ratio (squaredEnergy low * root t + 62500 * t .i0 * t .sn * t .sn) (25000000 * t .sn))
 
 -- "the loss is less than 1 kvarh from the exact formula, the root being compared through squares of whole numbers": the formula's
 -- value is below the loss and 1, and the loss below the formula's value and 1

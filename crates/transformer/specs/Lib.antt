@@ -3,4 +3,5 @@ pub mod Source
 pub mod Greatest
 pub mod LowSide
 pub mod Numbers
+pub mod Steps
 pub mod Claims

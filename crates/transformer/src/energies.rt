@@ -1,12 +1,13 @@
 // Signed energies: their sizes and squares.
 use crate::LowSide;
 ghost use mathlib.Core.Path.{_≡_};
-ghost use Prim.Native.Nat.{_+_, _*_, _≤_};
+ghost use Prim.Native.Nat.{_≤_};
 ghost use lib.IntN.{natAbs};
+ghost use Rattle.transformer.specs.Steps.{squaredEnergy};
 
 // The square of the apparent energy of the low side.
 pub(crate) fn squared_energy(low: LowSide) -> u64
-    ensures { λ r. ⌜ r ≡ natAbs (low .active) * natAbs (low .active) + natAbs (low .reactive) * natAbs (low .reactive) ⌝ }
+    ensures { λ r. ⌜ r ≡ squaredEnergy low ⌝ }
 {
     let active = size(low.active);
     let reactive = size(low.reactive);
