@@ -18,31 +18,27 @@ use Rattle.transformer.proofs.Accepted.{accepted}
 use Rattle.transformer.proofs.Bounds.{ranges, loss-lower, loss-upper}
 use Rattle.transformer.proofs.Distance.{is-below, is-above}
 
--- the square of the root's part, from its parts
-squared : (f f′ q q′ : Fraction) → Reduces f f′ → Reduces q q′ → Reduces (product (square f) q) (product (square f′) q′)
-squared f f′ q q′ h k = reduces-product (square f) q (square f′) q′ (reduces-product f f f′ f′ h h) k
-
 -- comparisons of a number with a root in it are those of its reduced parts
 module _ (a f q a′ f′ q′ : Fraction) (ha : Reduces a a′) (hf : Reduces f f′) (hq : Reduces q q′) where
-  pub same-below : (p : Fraction) → surdBelow (surd a f q) p ≡ surdBelow (surd a′ f′ q′) p
+  -- the square of the root's part
+  rest : Reduces (product (square f) q) (product (square f′) q′)
+  rest = reduces-product (square f) q (square f′) q′ (reduces-product f f f′ f′ hf hf) hq
+
+  -- the square of what lies between a fraction and the rational part
+  between : (p : Fraction) → Reduces (square (difference p a)) (square (difference p a′))
+  between p =
+      let d = reduces-difference p a p a′ (itself p) ha in
+      reduces-product (difference p a) (difference p a) (difference p a′) (difference p a′) d d
+
+  same-below : (p : Fraction) → surdBelow (surd a f q) p ≡ surdBelow (surd a′ f′ q′) p
   same-below p =
       ap₂ (λ (x y : Bool). x && y) (same-order a p a′ p ha (itself p))
-      (same-order (product (square f) q) (square (difference p a)) (product (square f′) q′) (square (difference p a′))
-      (squared f f′ q q′ hf hq)
-      (reduces-product (difference p a) (difference p a) (difference p a′) (difference p a′) between between))
-    where
-      between : Reduces (difference p a) (difference p a′)
-      between = reduces-difference p a p a′ (itself p) ha
+      (same-order (product (square f) q) (square (difference p a)) (product (square f′) q′) (square (difference p a′)) rest (between p))
 
-  pub same-above : (p : Fraction) → belowSurd p (surd a f q) ≡ belowSurd p (surd a′ f′ q′)
+  same-above : (p : Fraction) → belowSurd p (surd a f q) ≡ belowSurd p (surd a′ f′ q′)
   same-above p =
       ap₂ (λ (x y : Bool). x || y) (same-order p a p a′ (itself p) ha)
-      (same-order (square (difference p a)) (product (square f) q) (square (difference p a′)) (product (square f′) q′)
-      (reduces-product (difference p a) (difference p a) (difference p a′) (difference p a′) between between)
-      (squared f f′ q q′ hf hq))
-    where
-      between : Reduces (difference p a) (difference p a′)
-      between = reduces-difference p a p a′ (itself p) ha
+      (same-order (square (difference p a)) (product (square f) q) (square (difference p a′)) (product (square f′) q′) (between p) rest)
 
 module _ (low : LowSide) (t : DataSheet) (e : number low t ≡ 0) where
   some : 0 < t .sn
