@@ -26,7 +26,8 @@ pub struct DataSheet {
     pub copper: u32,
 }
 
-// The answer of a conversion: done, or one of 02's refusals.
+// The answer of a conversion: done, or one of 02's refusals. Implausible is our word for 15, fields that do not go
+// together: uk below uR, or an apparent power above twice Sn.
 pub enum ConversionAnswer {
     Converted,
     OutOfRange,
