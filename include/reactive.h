@@ -56,8 +56,9 @@ uint32_t reactive_classify(uint32_t role, uint32_t level, uint32_t band, uint32_
  *   short_circuit_voltage   uk in 0.01 %, 1 to 4,000
  *   no_load_current         i0 in 0.01 %, 0 to 4,000
  *   copper_losses           in kW, 0 to 4,000. uR is these over Sn
- *   take, supply            get the energies taken from and supplied to the grid, in kvarh, at most
- *                           500,000 and 250,000. One of them is 0. The two must be different
+ *   take, supply            get the energies taken from and supplied to the grid, in kvarh, each at
+ *                           most 1,000,000, as in an entry. One of them is 0. The two must be
+ *                           different
  *
  * uk may equal uR, and the apparent power, that of four times the energies, may equal twice Sn. An
  * argument out of range is found before what is implausible. A refusal leaves both numbers as they

@@ -50,8 +50,8 @@ millionths n = ratio n 1000000
 unfoldable pub passes : DataSheet → ℕ → Bool
 passes t n = isAtMost (square (millionths n)) (εCC² t)
 
--- "The root is the greatest number of millionths whose square does not exceed .." No number above uk, of which 02's uk has
--- hundreds of millionths, passes (`root-is-greatest`)
+-- "The root is the greatest number of millionths whose square does not exceed .." A hundredth of a per cent is 100 millionths, and
+-- no number above uk passes (`root-is-greatest`)
 unfoldable pub root : DataSheet → ℕ
 root t = greatest (passes t) (100 * t .uk)
 

@@ -1,4 +1,4 @@
-//! Documents 01 and 02 once more, in plain Rust and from the documents alone, to hold the programs and the C
+//! Documents 01 and 02 once more, in plain Rust and from the documents, to hold the programs and the C
 //! calls against. Nothing here is taken from the library: fields are cut out of binary digits, the
 //! journal is a list, voltages and energies are signed numbers, sums are made afresh each time, and the
 //! formulas of 001 are worked out in fractions.
