@@ -1,0 +1,4 @@
+pub mod Source
+pub mod BasicTariff
+pub mod Numbers
+pub mod Claims
