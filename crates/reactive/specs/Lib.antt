@@ -1,3 +1,4 @@
 pub mod QuarterHour
 pub mod LowSide
+pub mod BasicCharge
 pub mod Measured

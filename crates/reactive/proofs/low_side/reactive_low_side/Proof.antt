@@ -2,23 +2,28 @@
 use borrow.Author.Needs.{needs}
 use denote.Ref.{now}
 use mir.Facts.{toZ-ofZ}
-use Rattle.reactive.proofs.LowSide.{put, kept}
+use Rattle.transformer.specs.LowSide.{converted}
+use Rattle.reactive.specs.LowSide.{called}
+use Rattle.reactive.proofs.Lent.{put, kept}
+use Rattle.reactive.proofs.LowSide.{same}
 use Rattle.reactive.proofs.low_side.reactive_low_side.Statement.{statement}
 use Rattle.reactive.proofs.low_side.reactive_low_side.Tie as tie
 
 returns : tie.Need-returns
+unfolding called converted
 returns c =
     let a = c .before .before .before in
-    put _ _ _ _ (toZ-ofZ (a .fits .active)) (toZ-ofZ (a .fits .reactive)) _ (now (a .args .take)) (now (a .args .supply))
-    (c .before .before .convert .result)
-    (c .before .before .convert .ensures) _ (c .before .number .ensures) (c .if1 .taken)
+    let high = c .before .before .convert in
+    put _ _ (same _ _ _ _ (toZ-ofZ (a .fits .active)) (toZ-ofZ (a .fits .reactive)) _ (high .result) (high .ensures))
+    (now (a .args .take), now (a .args .supply)) _ (c .before .number .ensures) (c .if1 .taken)
 
 returns-2 : tie.Need-returns-2
+unfolding called converted
 returns-2 c =
     let a = c .before .before .before in
-    kept _ _ _ _ (toZ-ofZ (a .fits .active)) (toZ-ofZ (a .fits .reactive)) _ (now (a .args .take)) (now (a .args .supply))
-    (c .before .before .convert .result)
-    (c .before .before .convert .ensures) _ (c .before .number .ensures) (c .if1 .left)
+    let high = c .before .before .convert in
+    kept _ _ (same _ _ _ _ (toZ-ofZ (a .fits .active)) (toZ-ofZ (a .fits .reactive)) _ (high .result) (high .ensures))
+    (now (a .args .take), now (a .args .supply)) _ (c .before .number .ensures) (c .if1 .left)
 
 convert-requires : tie.Need-convert-requires
 convert-requires c κs = search needs
