@@ -1,5 +1,5 @@
-/* The classification of one quarter-hour of reactive energy, and the conversion of one that is metered
- * on the low-voltage side, as a C program calls them.
+/* The classification of one quarter-hour of reactive energy, the conversion of one that is metered on
+ * the low-voltage side, and the charge for weighted supply points, as a C program calls them.
  * Link the archive that `rt staticlib reactive` writes, target/staticlib/libreactive.a. */
 #ifndef REACTIVE_H
 #define REACTIVE_H
@@ -11,7 +11,7 @@
 extern "C" {
 #endif
 
-/* What both calls answer if they give what was asked for. */
+/* What each call answers if it gives what was asked for. */
 #define REACTIVE_ACCEPTED 0u
 
 /* What else reactive_classify answers; the slice is as it was. */
@@ -21,6 +21,10 @@ extern "C" {
 /* What else reactive_low_side answers; take and supply are as they were. */
 #define REACTIVE_FIELD_OUT_OF_RANGE 14u /* an argument is out of its range */
 #define REACTIVE_IMPLAUSIBLE 15u /* uk is below uR, or the apparent power is above twice Sn */
+
+/* What else reactive_basic_charge answers; the charge is as it was. */
+#define REACTIVE_CHARGE_OUT_OF_RANGE 16u /* an argument is out of its range, a slice has fewer places
+                                          * than points, or a point drew and fed in nothing */
 
 /* The bytes that the five shares take. */
 #define REACTIVE_SHARES_SIZE 40
@@ -66,6 +70,24 @@ uint32_t reactive_classify(uint32_t role, uint32_t level, uint32_t band, uint32_
 uint32_t reactive_low_side(int32_t active, int32_t reactive, uint32_t rated_power,
                            uint32_t short_circuit_voltage, uint32_t no_load_current,
                            uint32_t copper_losses, uint32_t *take, uint32_t *supply);
+
+/* What supply points cost at the fixed basic tariff, each weighted by its factor K: the tariff times the
+ * sum of K, divided by 600 and rounded down once, at the end. The share of a point is the drawn part of
+ * all that it drew and fed in, in thousandths, rounded down; K is 0 up to share 200, 600 from share 800,
+ * and the share less 200 between.
+ *
+ *   fixed_tariff   in rappen for a point of full weight, 0 to 100,000,000
+ *   points         how many there are, 1 to 8
+ *   drawn          a slice of drawn_places numbers: what each point drew in the last 12 months, in kWh,
+ *                  0 to 1,000,000,000,000
+ *   fed_in         a slice of fed_in_places numbers: what each point fed in, in the same way
+ *   charge         gets the charge in rappen. It must lie in neither slice
+ *
+ * A slice may have more places than there are points; those are not read. A point may have drawn nothing,
+ * or fed in nothing, but not both. A refusal leaves the charge as it was. */
+uint32_t reactive_basic_charge(uint32_t fixed_tariff, uint32_t points, const uint64_t *drawn,
+                               size_t drawn_places, const uint64_t *fed_in, size_t fed_in_places,
+                               uint64_t *charge);
 
 #ifdef __cplusplus
 }
