@@ -1,4 +1,4 @@
-//! Fractions of whole numbers, exact and not reduced.
+//! Fractions of whole numbers, exact, and reduced only where that is asked for.
 use std::cmp::Ordering;
 use std::ops::{Add, Div, Mul, Sub};
 
@@ -17,6 +17,19 @@ pub fn whole(number: i64) -> Fraction {
     fraction(number, 1)
 }
 
+/// The greatest number from 0 on that is low enough, sought one decimal digit after the other, from this power of ten
+/// down.
+pub fn greatest(power: i64, is_low_enough: impl Fn(i64) -> bool) -> i64 {
+    let (mut number, mut digit) = (0, power);
+    while digit > 0 {
+        while is_low_enough(number + digit) {
+            number += digit;
+        }
+        digit /= 10;
+    }
+    number
+}
+
 impl Fraction {
     pub fn squared(self) -> Fraction {
         self * self
@@ -26,6 +39,15 @@ impl Fraction {
     pub fn rounded(self) -> i64 {
         let sum = self + fraction(1, 2);
         sum.upper.div_euclid(sum.lower) as i64
+    }
+
+    /// In lowest terms, so that a long sum fits.
+    pub fn reduced(self) -> Fraction {
+        let (mut divisor, mut rest) = (self.lower, self.upper.abs());
+        while rest > 0 {
+            (divisor, rest) = (rest, divisor % rest);
+        }
+        Fraction { upper: self.upper / divisor, lower: self.lower / divisor }
     }
 }
 

@@ -1,11 +1,12 @@
 //! Documents 01 and 02 once more, in plain Rust and from the documents, to hold the programs and the C
 //! calls against. Nothing here is taken from the library: fields are cut out of binary digits, the
 //! journal is a list, voltages and energies are signed numbers, sums are made afresh each time, and the
-//! formulas of 001 are worked out in fractions.
+//! formulas of 001 and 002 are worked out in fractions.
 //!
 //! The tests look for the programs and the archive in the folder that the environment variable
 //! REACTIVE_TARGET names, else in the repository's `target`. ORACLE_SEED replaces the seed.
 
+pub mod basic_charge;
 pub mod bits;
 pub mod book;
 pub mod bounds;

@@ -1,6 +1,6 @@
 //! A point metered on the low-voltage side: 02, Ticket 2, and of 001, 4.1.1 the exact procedure. The formulas
 //! stand here as they stand in 001, in fractions of kW, kvar and kVA.
-use crate::fraction::{fraction, whole, Fraction};
+use crate::fraction::{fraction, greatest, whole, Fraction};
 
 /// What the meter and the transformer's data sheet say, in the order of the call.
 #[derive(Clone, Copy, Debug)]
@@ -63,16 +63,10 @@ impl LowSide {
     }
 
     /// "The greatest number of millionths (1 % is 10,000 of them) whose square does not exceed the square of uk less
-    /// that of uR", one decimal digit after the other.
+    /// that of uR".
     pub fn root(&self) -> i64 {
         let most = self.uk().squared() - self.ur().squared();
-        let mut root = 0;
-        for digit in [1_000_000, 100_000, 10_000, 1_000, 100, 10, 1] {
-            while fraction(root + digit, 1_000_000).squared() <= most {
-                root += digit;
-            }
-        }
-        root
+        greatest(1_000_000, |root| fraction(root, 1_000_000).squared() <= most)
     }
 
     /// 001's Q_V with this root, in kvarh: over a quarter of an hour, rounded once.

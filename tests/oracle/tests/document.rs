@@ -1,7 +1,9 @@
 //! The oracle against what document 01 prints, with 02's changes: its example, its edges, and the order of its
-//! numbers; and against losses of the low side worked out by hand.
+//! numbers; and against losses of the low side and basic charges worked out by hand.
+use oracle::basic_charge::{factor, SupplyPoints};
 use oracle::bits::{pack, unpack};
 use oracle::book::{open, post, Book};
+use oracle::fraction::{fraction, whole};
 use oracle::low_side::{self, LowSide};
 use oracle::month_file::{quarters, File, Header, HEADER};
 use oracle::quarter::{c_call, Quarter, Shares};
@@ -274,6 +276,72 @@ fn cases_of_the_low_side_are_six_numbers_each() {
     let cases = "# 0 0\n6000 8000 400 1000 25 2400 # 825\n\t-6000\n-8000 400 1000 25 2400 0 0 0 0 0 0 1 2 3 4 5#6\n";
     assert_eq!(low_side::text(cases), "0 0 7175\n0 8825 0\n14 0 0\n");
     assert_eq!(low_side::text(""), "");
+}
+
+#[test]
+fn factor_of_002_is_the_rule_of_02_in_600ths() {
+    assert!(factor(200) == whole(0) && factor(350) == fraction(1, 4) && factor(800) == whole(1));
+    for share in 0..=1_000 {
+        let k = match share {
+            0..=200 => 0,
+            800.. => 600,
+            _ => share - 200,
+        };
+        assert!(factor(share) == fraction(k, 600), "share {share}");
+    }
+}
+
+/// Drawn and fed in, of each point.
+fn basic_charge(fixed_tariff: u32, energies: &[[u64; 2]]) -> Result<u64, u32> {
+    let drawn: Vec<u64> = energies.iter().map(|point| point[0]).collect();
+    let fed_in: Vec<u64> = energies.iter().map(|point| point[1]).collect();
+    SupplyPoints { fixed_tariff, points: energies.len() as u32, drawn: &drawn, fed_in: &fed_in }.charge()
+}
+
+const MOST: u64 = 1_000_000_000_000;
+
+#[test]
+fn share_is_rounded_down() {
+    // With a tariff of 600 the charge is K. A fifth is share 200; 201 begins where 799 · drawn is 201 · fed-in.
+    for (drawn, fed_in, k) in [(0, 1, 0), (1, 4, 0), (2_009, 7_991, 0), (201, 799, 1), (202, 799, 1), (1, 1, 300)] {
+        assert_eq!(basic_charge(600, &[[drawn, fed_in]]), Ok(k), "{drawn} of {drawn} and {fed_in}");
+    }
+    // 201 · 10^12 / 799 is 251,564,455,569.4...: the least drawn of share 201 is above, the most fed-in of 799 below.
+    for (drawn, k) in [(250_000_000_000, 0), (251_564_455_569, 0), (251_564_455_570, 1)] {
+        assert_eq!(basic_charge(600, &[[drawn, MOST]]), Ok(k), "{drawn} drawn");
+    }
+    let borders = [(250_000_000_000, 600), (250_000_000_001, 599), (251_564_455_569, 599), (251_564_455_570, 598)];
+    for (fed_in, k) in borders {
+        assert_eq!(basic_charge(600, &[[MOST, fed_in]]), Ok(k), "{fed_in} fed in");
+    }
+}
+
+#[test]
+fn charge_is_rounded_down_once() {
+    // K is 1 of 600 for each point: three times 200 is 600, three times 599 is 1,797.
+    for (fixed_tariff, charge) in [(199, 0), (200, 1), (399, 1), (400, 2), (599, 2), (600, 3)] {
+        assert_eq!(basic_charge(fixed_tariff, &[[201, 799]; 3]), Ok(charge), "tariff {fixed_tariff}");
+    }
+    // K is 300 and 599: 100,000,000 · 899 / 600 is 149,833,333.3...
+    assert_eq!(basic_charge(100_000_000, &[[MOST, MOST], [799, 201]]), Ok(149_833_333));
+    assert_eq!(basic_charge(100_000_000, &[[MOST, 0]; 8]), Ok(800_000_000));
+    assert_eq!(basic_charge(0, &[[1, 0]]), Ok(0));
+}
+
+#[test]
+fn points_are_turned_away_past_the_limits() {
+    assert_eq!(basic_charge(100_000_001, &[[1, 0]]), Err(16));
+    assert_eq!(basic_charge(600, &[]), Err(16));
+    assert_eq!(basic_charge(600, &[[1, 0]; 9]), Err(16));
+    for wrong in [[0, 0], [MOST + 1, 0], [0, MOST + 1], [u64::MAX, 1]] {
+        assert_eq!(basic_charge(600, &[wrong, [1, 0]]), Err(16), "{wrong:?}");
+        assert_eq!(basic_charge(600, &[[1, 0], wrong]), Err(16), "{wrong:?}");
+    }
+    let one = SupplyPoints { fixed_tariff: 600, points: 1, drawn: &[1, 0], fed_in: &[0, MOST + 1] };
+    assert_eq!(one.charge(), Ok(600), "the second place is not read");
+    assert_eq!(SupplyPoints { points: 2, ..one }.charge(), Err(16));
+    assert_eq!(SupplyPoints { drawn: &[], ..one }.charge(), Err(16));
+    assert_eq!(SupplyPoints { fed_in: &[], ..one }.charge(), Err(16));
 }
 
 #[test]
