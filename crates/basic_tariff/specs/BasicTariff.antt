@@ -51,7 +51,8 @@ pointRefused p = energyOutOfRange (p .drawn) || energyOutOfRange (p .fedIn) || i
 abbrev pub anyRefused : (ℕ → Point) → ℕ → Bool
 anyRefused points n = anyBelow (λ i. pointRefused (points i)) n
 
--- "the fixed tariff (rappen, at most 100,000,000)", "1 to 8 points"; and each of them has a place in both rows
+-- out of range: "the fixed tariff (rappen, at most 100,000,000)"; the count of "1 to 8 points"; or a row is, having fewer places than
+-- there are points
 unfoldable pub callRefused : ℕ → ℕ → List ℕ → List ℕ → Bool
 callRefused tariff n drawn fedIn = ltb 100000000 tariff || ltb n 1 || ltb 8 n || ltb (length drawn) n || ltb (length fedIn) n
 
@@ -59,6 +60,7 @@ callRefused tariff n drawn fedIn = ltb 100000000 tariff || ltb n 1 || ltb 8 n ||
 unfoldable pub refused : ℕ → ℕ → List ℕ → List ℕ → Bool
 refused tariff n drawn fedIn = callRefused tariff n drawn fedIn || anyRefused (pointAt drawn fedIn) n
 
+-- 16, or 0 where nothing is turned away
 unfoldable pub number : ℕ → ℕ → List ℕ → List ℕ → ℕ
 number tariff n drawn fedIn = cond (refused tariff n drawn fedIn) 16 0
 

@@ -6,7 +6,8 @@ use Rattle.quantity.specs.Fraction.{ratio, isBelow, isAtMost}
 use Rattle.basic_tariff.specs.BasicTariff.{Point, share, K}
 use Rattle.basic_tariff.specs.Source.{quota, fattoreK}
 
--- 002's share lies from 02's share to one thousandth more, and 02's K is 002's factor at 02's share
+-- 002's share lies from 02's share to less than a thousandth more; and K over 600 is 002's factor at 02's share, both fractions
+-- multiplied crosswise
 pub record Weighted (p : Point) : Type 0 where
   pub share-at-most : isAtMost (ratio (share p) 1000) (quota (p .drawn) (p .fedIn)) ≡ true
   pub next-above : isBelow (quota (p .drawn) (p .fedIn)) (ratio (share p + 1) 1000) ≡ true
