@@ -5,22 +5,23 @@ use mathlib.Core.Bool.{true}
 use native.Mathlib.Decide.{decLe}
 use native.Mathlib.Nat.{mul-div-le, lt-mul-div-succ}
 use native.Mathlib.Omega.{arith}
-use borrow.Author.Tests.{le-leb, lt-leb, lt-ltb, le-ltb}
+use borrow.Author.Tests.{lt-ltb, le-ltb}
 use Rattle.quantity.specs.Fraction.{ratio, isBelow, isAtMost}
 use Rattle.basic_tariff.specs.BasicTariff.{share, K}
 use Rattle.basic_tariff.specs.Source.{quota, fattoreK}
 use Rattle.basic_tariff.specs.Claims.{WeightedAsIn002}
+use Rattle.basic_tariff.proofs.Cases.{none, full, between}
 
 factor : (s : ℕ) → K s * fattoreK (ratio s 1000) .under ≡ fattoreK (ratio s 1000) .over * 600
-unfolding K fattoreK
+unfolding fattoreK
 factor s = go (decLe s 200) (decLe 800 s)
   where
     go : Dec (s ≤ 200) → Dec (800 ≤ s) → K s * fattoreK (ratio s 1000) .under ≡ fattoreK (ratio s 1000) .over * 600
-    go (yes low) high = rw (le-leb s 200 low, le-ltb (2 * 1000) (s * 10) (omega arith))
+    go (yes low) high = rw (none s low, le-ltb (2 * 1000) (s * 10) (omega arith))
     go (no low) (yes high) =
-        rw (lt-leb s 200 (omega arith), lt-ltb (2 * 1000) (s * 10) (omega arith), le-leb 800 s high, le-ltb (s * 10) (8 * 1000) (omega arith))
+        rw (full s (omega arith) high, lt-ltb (2 * 1000) (s * 10) (omega arith), le-ltb (s * 10) (8 * 1000) (omega arith))
     go (no low) (no high) =
-        rw (lt-leb s 200 (omega arith), lt-ltb (2 * 1000) (s * 10) (omega arith), lt-leb 800 s (omega arith), lt-ltb (s * 10) (8 * 1000) (omega arith)) (omega arith)
+        rw (between s (omega arith) (omega arith), lt-ltb (2 * 1000) (s * 10) (omega arith), lt-ltb (s * 10) (8 * 1000) (omega arith)) (omega arith)
 
 -- The share s of d and f.
 module _ (d f s : ℕ) where

@@ -1,21 +1,18 @@
--- `k_table::k_of` meets its contract. Assumes nothing.
+-- `k_table::k_of` meets its contract: its three cases are those of K. Assumes nothing.
+use mathlib.Core.Path.{sym}
 use borrow.Author.Needs.{needs}
-use borrow.Author.Tests.{le-leb, lt-leb}
-use Rattle.basic_tariff.specs.BasicTariff.{K}
+use Rattle.basic_tariff.proofs.Cases.{none, full, between}
 use Rattle.k_table.proofs.k_of.Statement.{statement}
 use Rattle.k_table.proofs.k_of.Tie as tie
 
 returns : tie.Need-returns
-unfolding K
-returns c = rw (le-leb _ 200 (c .if1 .taken))
+returns c = sym (none (c .before .args .share) (c .if1 .taken))
 
 returns-2 : tie.Need-returns-2
-unfolding K
-returns-2 c = rw (lt-leb _ 200 (c .before .if1 .left), le-leb 800 _ (c .if2 .taken))
+returns-2 c = sym (full (c .before .before .args .share) (c .before .if1 .left) (c .if2 .taken))
 
 returns-3 : tie.Need-returns-3
-unfolding K
-returns-3 c = rw (lt-leb _ 200 (c .before .if1 .left), lt-leb 800 _ (c .if2 .left))
+returns-3 c = sym (between (c .before .before .args .share) (c .before .if1 .left) (c .if2 .left))
 
 sub-result : tie.Need-sub-result
 sub-result c = search needs

@@ -6,7 +6,8 @@ use borrow.Author.Needs.{needs}
 use denote.Ref.{now}
 use Rattle.basic_tariff.specs.BasicTariff.{pointAt, sumOfK, charge}
 use Rattle.basic_tariff.proofs.Accepted.{call-of, point-of}
-use Rattle.basic_tariff.proofs.Sums.{none-yet, sum-next, sum-most, k-most, product-fits}
+use Rattle.basic_tariff.proofs.Cases.{k-most}
+use Rattle.basic_tariff.proofs.Sums.{none-yet, sum-next, sum-most, product-fits}
 use Rattle.basic_tariff.proofs.charge.charge.Statement.{statement}
 use Rattle.basic_tariff.proofs.charge.charge.Tie as tie
 
