@@ -1,2 +1,3 @@
 mod Delivering
 pub mod InFull
+pub mod Results
