@@ -1,3 +1,4 @@
 mod Adding
 mod Reporting
+mod Statements
 pub mod TotalIsSum

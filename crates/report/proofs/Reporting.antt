@@ -10,11 +10,9 @@ use Rattle.book.specs.Library.{lent}
 use Rattle.posting.specs.Posting.{PostResult, posting}
 use Rattle.statement_text.specs.declared.Line.{Line}
 use Rattle.statement_text.specs.declared.Statement.{Statement}
-use Rattle.statement_text.specs.declared.page.Page.{Page}
-use Rattle.statement_text.specs.Text.{textOf, pageOf}
 use Rattle.statement_lines.specs.Lines.{lineOf}
 use Rattle.statement_total.specs.Total.{totalLine}
-use Rattle.report.specs.Statement.{refusedBy, ofBook, reported, blankJournal, statement, printed}
+use Rattle.report.specs.Statement.{refusedBy, ofBook, reported, inputMost, journalSize, blankJournal, statement}
 
 -- the statement, once it is known whether it is a refusal
 pub turned-down : (n : ℕ) (b : Book) (s : Statement) → (n ≡ 0 → ⊥) → s ≡ refusedBy n → s ≡ reported n b
@@ -39,14 +37,12 @@ unfolding reported ofBook
 in-full n b q ls t z e f g = rw (eq-eqb n 0 z, e, g, f)
 
 -- too much was read
-pub too-much : (input : List ℕ) (s : Statement) (p : Page) → 65536 < length input → s ≡ refusedBy 12
-    → p ≡ pageOf (textOf s) → p ≡ printed input
-unfolding statement printed
-too-much input s p h e f = rw (lt-ltb 65536 (length input) h, ← e) f
+pub too-much : (input : List ℕ) (s : Statement) → inputMost < length input → s ≡ refusedBy 12 → s ≡ statement input
+unfolding statement
+too-much input s h e = rw (lt-ltb inputMost (length input) h) e
 
 -- what posting gives is reported
-pub shown : (input : List ℕ) (s : Statement) (p : Page) (n : ℕ) (x : PostResult) → length input ≤ 65536
-    → x ≡ posting input (lent (replicate 65532 0)) → n ≡ x .number → s ≡ reported n (x .book)
-    → p ≡ pageOf (textOf s) → p ≡ printed input
-unfolding blankJournal statement printed
-shown input s p n x h q e r f = rw (le-ltb 65536 (length input) h, ← q, ← e, ← r) f
+pub shown : (input : List ℕ) (s : Statement) (n : ℕ) (x : PostResult) → length input ≤ inputMost
+    → x ≡ posting input (lent (replicate journalSize 0)) → n ≡ x .number → s ≡ reported n (x .book) → s ≡ statement input
+unfolding blankJournal statement
+shown input s n x h q e r = rw (le-ltb inputMost (length input) h, ← q, ← e) r

@@ -1,17 +1,16 @@
 -- The total handed to printing is the sum over the point lines' figures. Assumes nothing.
 use Prim.Native.Nat.{ℕ}
 use mathlib.Core.Path.{_≡_, refl, ap, _∙_}
-use mathlib.Core.Bool.{Bool, true, false, cond}
 use mathlib.Core.List.{List}
-use lib.Dec.{ltb, eqb}
-use lib.ListN.{length, take}
+use lib.ListN.{take}
 use Rattle.book.specs.declared.Book.{Book}
 use Rattle.posting.specs.Posting.{posting}
 use Rattle.statement_text.specs.declared.Line.{Line}
 use Rattle.statement_text.specs.declared.Statement.{Statement}
 use Rattle.statement_total.specs.Total.{figureOf, sum, totalLine}
 use Rattle.statement_total.proofs.Sums.{total-column, none-added}
-use Rattle.report.specs.Statement.{refusedBy, ofBook, reported, blankJournal, statement, TotalIsSum}
+use Rattle.report.specs.Statement.{refusedBy, ofBook, blankJournal, statement, TotalIsSum}
+use Rattle.report.proofs.Statements.{statement-has}
 
 -- a statement's total is that of the lines that are printed
 abbrev Summed : Statement → Type 0
@@ -27,23 +26,11 @@ book-summed : (b : Book) → Summed (ofBook b)
 unfolding ofBook
 book-summed b = refl
 
--- so is what posting gives, accepted or refused
-reported-summed : (n : ℕ) (b : Book) → Summed (reported n b)
-unfolding reported
-reported-summed n b = go (eqb n 0)
-  where
-    go : (t : Bool) → Summed (cond t (ofBook b) (refusedBy n))
-    go true = book-summed b
-    go false = refused-summed n
-
--- and so is every statement
+-- and so is every statement's
 statement-summed : (input : List ℕ) → Summed (statement input)
-unfolding statement
-statement-summed input = go (ltb 65536 (length input))
-  where
-    go : (t : Bool) → Summed (cond t (refusedBy 12) (reported (posting input blankJournal .number) (posting input blankJournal .book)))
-    go true = refused-summed 12
-    go false = reported-summed (posting input blankJournal .number) (posting input blankJournal .book)
+statement-summed input =
+    let r = posting input blankJournal in
+    statement-has Summed input (book-summed (r .book)) (refused-summed 12) (λ h. refused-summed (r .number))
 
 -- column by column
 pub total-is-sum : TotalIsSum

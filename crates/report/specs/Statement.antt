@@ -50,16 +50,22 @@ ofBook b =
 unfoldable pub reported : ℕ → Book → Statement
 reported n b = cond (eqb n 0) (ofBook b) (refusedBy n)
 
--- "a journal of 65,532 bytes"
-unfoldable pub blankJournal : Lent
-blankJournal = lent (replicate 65532 0)
+-- 12: "Program only, before all others: standard input exceeds 65,536 bytes."
+abbrev pub inputMost : ℕ
+inputMost = 65536
 
--- "The program posts standard input into a journal of 65,532 bytes."; 12: "Program only, before all others: standard input exceeds
--- 65,536 bytes." The number and the figures that are handed to printing
+-- "a journal of 65,532 bytes"
+abbrev pub journalSize : ℕ
+journalSize = 65532
+
+unfoldable pub blankJournal : Lent
+blankJournal = lent (replicate journalSize 0)
+
+-- "The program posts standard input into a journal of 65,532 bytes.": the number and the figures that are handed to printing
 unfoldable pub statement : List ℕ → Statement
 statement input =
     let r = posting input blankJournal in
-    cond (ltb 65536 (length input)) (refusedBy 12) (reported (r .number) (r .book))
+    cond (ltb inputMost (length input)) (refusedBy 12) (reported (r .number) (r .book))
 
 -- 02, Ticket 1: "The total handed to printing is proved equal to the sum over the point lines' figures."
 abbrev pub TotalIsSum : Type 0

@@ -14,21 +14,28 @@ ghost use Prim.Native.Nat.{_≤_};
 ghost use lib.ListN.{length};
 ghost use Rattle.statement_lines.specs.Lines.{lineOf};
 ghost use Rattle.statement_total.specs.Total.{Addable};
-ghost use Rattle.report.specs.Statement.{printed, refusedBy, reported};
+ghost use Rattle.report.specs.Statement.{printed, refusedBy, reported, statement};
 
-// Posts what was read from standard input, and gives the page that is printed for it.
+// The page that is printed for what was read from standard input.
 pub fn printed(input: &[u8]) -> Page
     ensures { λ r. ⌜ r ≡ printed (now (input .entry)) ⌝ }
     ensures { λ r. ⌜ r .length ≤ length (r .bytes) ⌝ }
 {
+    text_of(statement_of(input))
+}
+
+// Posts what was read, and gives the number and the figures that are handed to printing.
+fn statement_of(input: &[u8]) -> Statement
+    ensures { λ r. ⌜ r ≡ statement (now (input .entry)) ⌝ }
+{
     if input.len() > 65_536 {
-        return text_of(refused(12));
+        return refused(12);
     }
     let mut journal = [0u8; 65_532];
     let posted = post(input, &mut journal);
     let answer = posted.answer;
     let book = posted.book;
-    text_of(report(answer.number(), book))
+    report(answer.number(), book)
 }
 
 // What posting answered: a refusal, or the figures of the book.
