@@ -1,3 +1,4 @@
 mod Delivering
 pub mod InFull
+pub mod Numbers
 pub mod Results

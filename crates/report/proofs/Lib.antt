@@ -1,4 +1,5 @@
 mod Adding
+pub mod NumbersSeen
 mod Reporting
 mod Statements
 pub mod TotalIsSum

@@ -1,10 +1,11 @@
--- Document 01, "Statement", and document 02, Ticket 1: what is printed. Assumes nothing.
+-- Document 01, "Statement", and document 02, Tickets 1 and 4: what is printed. Assumes nothing.
 use Prim.Native.Nat.{ℕ}
 use mathlib.Core.Path.{_≡_}
-use mathlib.Core.Bool.{cond}
-use mathlib.Core.List.{List, map}
+use mathlib.Core.Bool.{true, cond}
+use mathlib.Core.List.{List, [], _∷_, map}
 use lib.Dec.{ltb, eqb}
 use lib.ListN.{length, take, replicate}
+use Rattle.lists.specs.Lists.{anyOf}
 use Rattle.calendar.specs.Calendar.{quartersOf}
 use Rattle.worth.specs.Figures.{Column}
 use Rattle.book.specs.declared.Book.{Book}
@@ -71,6 +72,17 @@ statement input =
 abbrev pub TotalIsSum : Type 0
 TotalIsSum =
     (input : List ℕ) (c : Column) → let s = statement input in figureOf (s .total) c ≡ sum c (take (s .count) (s .lines))
+
+-- 02, Ticket 4: "Prove that the number handed to printing is never 10"
+abbrev pub NeverFull : Type 0
+NeverFull = (input : List ℕ) → statement input .number ≡ 10 → ⊥
+
+-- "Operators keep a help page for each number they may see.": these, and 0, which comes with the figures of a book
+unfoldable pub numbersSeen : List ℕ
+numbersSeen = 0 ∷ 1 ∷ 2 ∷ 3 ∷ 4 ∷ 5 ∷ 6 ∷ 9 ∷ 12 ∷ []
+
+abbrev pub OnlyNumbersSeen : Type 0
+OnlyNumbersSeen = (input : List ℕ) → anyOf (eqb (statement input .number)) numbersSeen ≡ true
 
 -- "It prints `refused N`, or a line .., then a line for each point"
 unfoldable pub printed : List ℕ → Page
