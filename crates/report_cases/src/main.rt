@@ -1,5 +1,5 @@
 // Runs the statement on cases of document 01 that its example does not show: each refusal that the
-// program can print, months of each length, the rounding of amounts, their total, and the largest file.
+// program can print, months of each length, the rounding of amounts, their total, and the largest file and one entry more.
 //
 // A case is a line with its label, and the text that the program would print. The file `stdout` has the
 // answers; docs/report_cases.md says where they come from.
@@ -112,9 +112,9 @@ fn show_month(third: u8, fourth: u8) {
     show_changed(b"a month", &mut file, 2, third, fourth);
 }
 
-// The largest file, and one byte more.
+// The largest file, one byte more, and one entry more.
 fn show_largest() {
-    let mut file = [0u8; 65_537];
+    let mut file = [0u8; 65_548];
     write_largest(&mut file);
 }
 
@@ -122,16 +122,18 @@ fn show_largest() {
 fn write_largest(file: &mut [u8]) {
     put_head(file);
     put_entries(file);
-    show_both(file);
+    show_first(b"65,536 bytes", file, 65_536);
+    show_first(b"65,537 bytes", file, 65_537);
+    // The header counts the last entry too.
+    put(file, 6, 0x54);
+    show(b"5,460 entries", file);
 }
 
-// The file without its last byte, and with it.
-fn show_both(file: &[u8]) {
-    let length = file.len();
-    if 0 < length {
-        show(b"65,536 bytes", &file[..length - 1]);
+// The first bytes of a file.
+fn show_first(label: &[u8], file: &[u8], count: usize) {
+    if count <= file.len() {
+        show(label, &file[..count]);
     }
-    show(b"65,537 bytes", file);
 }
 
 // Header and point.
@@ -142,9 +144,9 @@ fn put_head(file: &mut [u8]) {
     }
 }
 
-// All entries.
+// All entries, and one more.
 fn put_entries(file: &mut [u8]) {
-    for i in 0..5_459 {
+    for i in 0..5_460 {
         put_entry(file, i);
     }
 }
@@ -154,7 +156,7 @@ fn put_entries(file: &mut [u8]) {
 fn put_entry(file: &mut [u8], i: usize) {
     let quarter = i % 2_976;
     let version_and_lamp = if i < 2_976 { 0x18u8 } else { 0x28u8 };
-    let at = 28 + 12 * (i % 5_459);
+    let at = 28 + 12 * (i % 5_460);
     put(file, at, (quarter / 128) as u8);
     put(file, at + 1, (2 * (quarter % 128)) as u8);
     put(file, at + 2, version_and_lamp);

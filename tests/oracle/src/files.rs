@@ -28,6 +28,10 @@ pub fn all(seed: u64) -> Vec<Case> {
     cases.add("totals", vec![two_halves().bytes(), eight_billed().bytes()]);
     cases.add_random("full, one entry wrong", 12, full_with_a_wrong_entry);
     cases.add_random("too long", 24, too_long);
+    cases.add(
+        "the fullest, and entries more",
+        [5_459, 5_460, 5_461, 5_462].map(|count| one_point(count).bytes()).to_vec(),
+    );
     cases.list
 }
 

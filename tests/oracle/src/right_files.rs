@@ -49,6 +49,12 @@ pub fn eight_billed() -> File {
     File::new(2024, 1, vec![active(0, 100_000, 100_000, 100_000); 8], (0..5_446).map(made).collect())
 }
 
+/// One point and so many entries: each quarter-hour of January 2024, and again as version 2. 5,459 make 65,536 bytes.
+pub fn one_point(count: i64) -> File {
+    let made = |index: i64| entry([0, index % 2_976, index / 2_976 + 1, 1, 0, 1_000, 22_050, 22_000]);
+    File::new(2024, 1, vec![active(0, 300, 1_000, 500)], (0..count).map(made).collect())
+}
+
 pub fn four_transformers() -> File {
     let point = semi_active(0, 99_999, 100_000, &[(4000, 20_000), (1, 1), (1200, 1), (3999, 19_999)]);
     let entries = [

@@ -9,7 +9,7 @@ use oracle::month_file::{quarters, File, Header, HEADER};
 use oracle::quarter::{c_call, Quarter, Shares};
 use oracle::random::Random;
 use oracle::replay;
-use oracle::right_files::{active, eight_billed, entry, example, right_file, semi_active, two_halves};
+use oracle::right_files::{active, eight_billed, entry, example, one_point, right_file, semi_active, two_halves};
 use oracle::statement::{rappen, text};
 
 const STATEMENT: &str = "\
@@ -104,6 +104,24 @@ fn total_of_eight_points_with_the_largest_figures() {
     let debit = 5_446 * 200_000_000_i64;
     let last = format!("\ntotal {grains} 0 0 {grains} 0 0 0 {debit}\n");
     assert!(text(&eight_billed().bytes()).ends_with(&last));
+}
+
+/// 2,976 quarters stand, of 1,600,000 grains each: 300 times that sum, by 1,600,000.
+const FULLEST: &str = "\
+2024-01 2976 5459
+0 4761600000 4761600000 0 0 0 0 892800 0
+total 4761600000 4761600000 0 0 0 0 892800 0
+";
+
+/// Only the input's limit keeps 10 away: the journal of the program holds 5,461 entries.
+#[test]
+fn fullest_file_is_printed_and_one_entry_more_is_12() {
+    assert_eq!(one_point(5_459).bytes().len(), 65_536);
+    assert_eq!(text(&one_point(5_459).bytes()), FULLEST);
+    assert_eq!(text(&one_point(5_460).bytes()), "refused 12\n");
+    assert_eq!(text(&one_point(5_462).bytes()), "refused 12\n");
+    assert_eq!(post(&one_point(5_461).bytes(), 65_532).number, 0);
+    assert_eq!(post(&one_point(5_462).bytes(), 65_532).number, 10);
 }
 
 #[test]

@@ -8,10 +8,10 @@ use Rattle.report_cases.proofs.put_entries.Statement.{statement}
 use Rattle.report_cases.proofs.put_entries.Tie as tie
 
 abbrev Inv-loop : tie.InvT-loop
-Inv-loop file₀ i₀ file i = (i ≤ 5459) × (length file ≡ length file₀)
+Inv-loop file₀ i₀ file i = (i ≤ 5460) × (length file ≡ length file₀)
 
 abbrev μ-loop : tie.MeasureT-loop
-μ-loop file₀ i₀ file i = 5459 - i
+μ-loop file₀ i₀ file i = 5460 - i
 
 loop-holds : tie.Need-loop-holds Inv-loop μ-loop
 loop-holds c = (omega arith, refl)
