@@ -51,7 +51,7 @@ ofBook b =
 unfoldable pub reported : ℕ → Book → Statement
 reported n b = cond (eqb n 0) (ofBook b) (refusedBy n)
 
--- 12: "Program only, before all others: standard input exceeds 65,536 bytes."
+-- "65,536 bytes", which 12 lets pass
 abbrev pub inputMost : ℕ
 inputMost = 65536
 
@@ -62,7 +62,8 @@ journalSize = 65532
 unfoldable pub blankJournal : Lent
 blankJournal = lent (replicate journalSize 0)
 
--- "The program posts standard input into a journal of 65,532 bytes.": the number and the figures that are handed to printing
+-- "The program posts standard input into a journal of 65,532 bytes."; 12: "Program only, before all others: standard input exceeds
+-- 65,536 bytes." The number and the figures that are handed to printing
 unfoldable pub statement : List ℕ → Statement
 statement input =
     let r = posting input blankJournal in
@@ -77,10 +78,11 @@ TotalIsSum =
 abbrev pub NeverFull : Type 0
 NeverFull = (input : List ℕ) → statement input .number ≡ 10 → ⊥
 
--- "Operators keep a help page for each number they may see.": these, and 0, which comes with the figures of a book
+-- 02, Ticket 4: "Operators keep a help page for each number they may see.": these, and 0, which comes with the figures of a book
 unfoldable pub numbersSeen : List ℕ
 numbersSeen = 0 ∷ 1 ∷ 2 ∷ 3 ∷ 4 ∷ 5 ∷ 6 ∷ 9 ∷ 12 ∷ []
 
+-- the number handed to printing is one of them
 abbrev pub OnlyNumbersSeen : Type 0
 OnlyNumbersSeen = (input : List ℕ) → anyOf (eqb (statement input .number)) numbersSeen ≡ true
 
