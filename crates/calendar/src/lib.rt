@@ -3,6 +3,9 @@ ghost use mathlib.Core.Path.{_≡_};
 ghost use Prim.Native.Nat.{_≤_};
 ghost use Rattle.calendar.specs.Calendar.{leap, daysOf, quartersOf};
 
+// The most quarter-hours that a month can have.
+pub const MOST_QUARTERS: usize = 2_976;
+
 // The quarter-hours of a month, 96 a day; 0 where there is no such month.
 pub fn quarters_of_month(year: u16, month: u8) -> u16
     ensures { λ r. ⌜ r ≡ quartersOf year month ⌝ }
