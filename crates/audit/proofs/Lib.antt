@@ -4,4 +4,3 @@ pub mod OneEntry
 pub mod Placed
 pub mod Places
 pub mod OnePlace
-pub mod Summing

@@ -1,15 +1,13 @@
-// Going through a journal: what stands before an entry, and the sums of a whole list L afresh, with whether
-// each of its entries could have been delivered (document 01, number 7). It takes master data, the length of
-// L and the journal, and knows no book.
+// A journal judged, without a book: how many entries it can hold, what stands before an entry, and what number
+// 7 of document 01 asks for, as definitions.
 mod comparing;
 mod entering;
-mod walk;
+mod room;
 
 pub use comparing::are_equal;
 pub use entering::standing_among;
 pub use entering::supersedes;
-pub use walk::capacity;
-pub use walk::summed_afresh;
+pub use room::capacity;
 use worth::Figures;
 
 // Whether master data and journal are such as calls can have left, and then the totals summed from the

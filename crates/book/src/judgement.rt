@@ -2,7 +2,7 @@
 use crate::Book;
 use answers::Answer;
 use audit::are_equal;
-use audit::summed_afresh;
+use walk::summed_afresh;
 ghost use mathlib.Core.Path.{_≡_};
 ghost use Rattle.refusals.specs.Refusals.{first};
 ghost use Rattle.answers.specs.Numbers.{numberOf};

@@ -1,8 +1,8 @@
--- `audit::walk::capacity` meets its contract. Assumes nothing.
+-- `audit::room::capacity` meets its contract. Assumes nothing.
 use native.Mathlib.Omega.{arith}
 use Rattle.machine.specs.Machine.{capacityOf}
-use Rattle.audit.proofs.walk.capacity.Statement.{statement}
-use Rattle.audit.proofs.walk.capacity.Tie as tie
+use Rattle.audit.proofs.room.capacity.Statement.{statement}
+use Rattle.audit.proofs.room.capacity.Tie as tie
 
 returns : tie.Need-returns
 unfolding capacityOf

@@ -1,0 +1,3 @@
+mod Judging
+mod Passing
+mod Summing
