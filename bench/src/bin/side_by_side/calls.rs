@@ -13,8 +13,8 @@ struct Times {
     totals: Vec<f64>,
 }
 
-/// Measures both sides on one file of so many entries.
-pub fn measure(count: i64, runs: usize, rounds: u32) {
+/// Measures both sides on one file of so many entries, and gives what a call of totals takes ours.
+pub fn measure(count: i64, runs: usize, rounds: u32) -> f64 {
     let file = month(count);
     let mut journal = vec![0; ENTRY_SIZE * count as usize];
     let (mut of_ours, mut of_rust) = (Times::default(), Times::default());
@@ -25,7 +25,9 @@ pub fn measure(count: i64, runs: usize, rounds: u32) {
     }
     let entries = table::grouped(count as u64);
     table::speeds(count, median(of_ours.post), median(of_rust.post), &format!("post, {entries} entries"));
-    table::times(median(of_ours.totals), median(of_rust.totals), &format!("totals, {entries} entries"));
+    let of_totals = median(of_ours.totals);
+    table::times(of_totals, median(of_rust.totals), &format!("totals, {entries} entries"));
+    of_totals
 }
 
 /// Totals has no call of its own: its time is what a run with it takes longer than one without.

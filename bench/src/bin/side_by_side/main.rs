@@ -20,13 +20,19 @@ mod ours;
 mod programs;
 mod table;
 
-/// Prints the table.
+/// 02, Ticket 5: "totals on a book of 60,000 entries takes less than 20 times as long as on one of 6,000".
+const MOST_GROWTH: f64 = 20.0;
+
+/// Prints the table, and fails where totals grow faster with the journal than 02 allows.
 fn main() {
     table::heading();
     programs::measure();
-    // Entries, runs, and calls of totals in each run: fewer where they take longer.
-    calls::measure(600, 15, 40);
-    calls::measure(6_000, 9, 4);
-    calls::measure(60_000, 3, 2);
+    // Entries, runs, and calls of totals in each run: many, so that the posting that is taken off weighs little.
+    calls::measure(600, 15, 1_000);
+    let short = calls::measure(6_000, 9, 1_000);
+    let long = calls::measure(60_000, 5, 400);
+    let growth = long / short;
+    table::growth(growth, "totals on 60,000 entries / totals on 6,000, ours");
     largest::compare();
+    assert!(growth < MOST_GROWTH, "totals on 60,000 entries take {growth:.2} times as long as on 6,000");
 }

@@ -17,6 +17,11 @@ pub fn speeds(count: i64, ours: f64, rust: f64, what: &str) {
     line(ours / rust, &speed(count, ours), &speed(count, rust), what);
 }
 
+/// A line of a ratio alone.
+pub fn growth(ratio: f64, what: &str) {
+    line(ratio, "", "", what);
+}
+
 /// A line of the table.
 fn line(ratio: f64, ours: &str, rust: &str, what: &str) {
     println!("{ratio:>9.2}  {ours:>14}  {rust:>14}  {what}");
