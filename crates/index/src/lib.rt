@@ -1,5 +1,5 @@
-// An index of a journal: for each point and quarter the position of the entry that stands, in a slice of
-// 16-bit numbers. `specs/Index.antt` says what each of its places holds.
+// An index of a journal: for each point and quarter the position plus one of the entry that stands, 0 for none,
+// in a slice of 16-bit numbers. `specs/Index.antt` says what each of its places holds.
 use calendar::MOST_QUARTERS;
 ghost use mathlib.Core.Path.{_≡_};
 ghost use Rattle.index.specs.Index.{keyPlace};

@@ -13,7 +13,7 @@ struct Times {
     totals: Vec<f64>,
 }
 
-/// Measures both sides on one file of so many entries, and gives what a call of totals takes ours.
+/// Measures both sides on one file of so many entries, and gives how long a call of totals takes on our side.
 pub fn measure(count: i64, runs: usize, rounds: u32) -> f64 {
     let file = month(count);
     let mut journal = vec![0; ENTRY_SIZE * count as usize];

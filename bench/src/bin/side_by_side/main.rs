@@ -27,7 +27,7 @@ const MOST_GROWTH: f64 = 20.0;
 fn main() {
     table::heading();
     programs::measure();
-    // Entries, runs, and calls of totals in each run: many, so that the posting that is taken off weighs little.
+    // Entries, runs, and calls of totals in each run: many, since the time of posting, which varies, is taken off.
     calls::measure(600, 15, 1_000);
     let short = calls::measure(6_000, 9, 1_000);
     let long = calls::measure(60_000, 5, 400);
