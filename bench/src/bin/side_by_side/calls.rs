@@ -13,8 +13,8 @@ struct Times {
     totals: Vec<f64>,
 }
 
-/// Measures both sides on one file of so many entries, and gives how long a call of totals takes on our side.
-pub fn measure(count: i64, runs: usize, rounds: u32) -> f64 {
+/// Measures both sides on one file of so many entries.
+pub fn measure(count: i64, runs: usize, rounds: u32) {
     let file = month(count);
     let mut journal = vec![0; ENTRY_SIZE * count as usize];
     let (mut of_ours, mut of_rust) = (Times::default(), Times::default());
@@ -25,9 +25,21 @@ pub fn measure(count: i64, runs: usize, rounds: u32) -> f64 {
     }
     let entries = table::grouped(count as u64);
     table::speeds(count, median(of_ours.post), median(of_rust.post), &format!("post, {entries} entries"));
-    let of_totals = median(of_ours.totals);
-    table::times(of_totals, median(of_rust.totals), &format!("totals, {entries} entries"));
-    of_totals
+    table::times(median(of_ours.totals), median(of_rust.totals), &format!("totals, {entries} entries"));
+}
+
+/// How many times as long totals take on our side on 60,000 entries as on 6,000. The two take turns, since a
+/// machine's speed changes.
+pub fn growth(runs: usize) -> f64 {
+    median((0..runs).map(|_| totals(60_000, 400) / totals(6_000, 1_000)).collect())
+}
+
+/// How long a call of totals takes on our side, in one run.
+fn totals(count: i64, rounds: u32) -> f64 {
+    let mut journal = vec![0; ENTRY_SIZE * count as usize];
+    let mut times = Times::default();
+    run_ours(&month(count), &mut journal, rounds, &mut times);
+    times.totals[0]
 }
 
 /// Totals has no call of its own: its time is what a run with it takes longer than one without.

@@ -29,9 +29,9 @@ fn main() {
     programs::measure();
     // Entries, runs, and calls of totals in each run: many, since the time of posting, which varies, is taken off.
     calls::measure(600, 15, 1_000);
-    let short = calls::measure(6_000, 9, 1_000);
-    let long = calls::measure(60_000, 5, 400);
-    let growth = long / short;
+    calls::measure(6_000, 9, 1_000);
+    calls::measure(60_000, 3, 200);
+    let growth = calls::growth(5);
     table::growth(growth, "totals on 60,000 entries / totals on 6,000, ours");
     largest::compare();
     assert!(growth < MOST_GROWTH, "totals on 60,000 entries take {growth:.2} times as long as on 6,000");
