@@ -7,8 +7,10 @@ use native.Mathlib.Decide.{decLt}
 use native.Mathlib.Numerals.{add-one}
 use native.Mathlib.Omega.{arith}
 use native.Mathlib.Nat.{le-of-suc-le-suc, not-suc-le-zero}
-use lib.ListN.{length, getD, take, length-append}
-use lib.Seq.{take-nil, take-all, take-append-le}
+use borrow.Author.Tests.{eqb-true, eqb-false}
+use lib.Dec.{eqb}
+use lib.ListN.{length, getD, set, take, length-append, length-set}
+use lib.Seq.{take-nil, take-all, take-append-le, ext-getD, getD-set-same, getD-set-other}
 use Rattle.refusals.proofs.Tests.{both, neither, second-fails}
 use Rattle.lists.specs.Lists.{anyOf, allOf, anyBelow, placesBelow}
 
@@ -55,6 +57,16 @@ module _ {A : Type 0} (p : A → Bool) where
     all-stop (x ∷ xs) zero (suc n) h k e = rw e
     all-stop (x ∷ xs) (suc i) (suc n) h k e =
         second-fails (p x) _ (all-stop xs i n (le-of-suc-le-suc h) (le-of-suc-le-suc k) e)
+
+-- where all places of two lists but one agree, setting that one turns one list into the other
+pub set-agrees : {A : Type 0} (d : A) (a b : List A) (k : ℕ) (v : A) → length a ≡ length b → k < length a → v ≡ getD b k d
+    → ((i : ℕ) → i < length a → (i ≡ k → ⊥) → getD a i d ≡ getD b i d) → set a k v ≡ b
+set-agrees d a b k v as-long inside here others =
+    ext-getD d (set a k v) b (length-set a k v ∙ as-long) (λ i within. at i (omega (arith, length-set a k v)) (eqb i k) refl)
+  where
+    at : (i : ℕ) → i < length a → (same : Bool) → eqb i k ≡ same → getD (set a k v) i d ≡ getD b i d
+    at i small true e = rw (eqb-true i k e) (getD-set-same a k v d inside ∙ here)
+    at i small false e = getD-set-other a k i v d (eqb-false i k e) ∙ others i small (eqb-false i k e)
 
 -- A test of places.
 module _ (p : ℕ → Bool) where
