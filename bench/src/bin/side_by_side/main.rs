@@ -10,7 +10,8 @@
 //! library finds the entry that stands by searching from the journal's end, plain Rust by a hash map.
 //!
 //! Totals: both sides sum the journal afresh and compare that with the stored sums. The library also
-//! tests each entry again as at its delivery (number 7, since it trusts no book); plain Rust does not.
+//! tests each entry again as at its delivery (number 7, since it trusts no book); plain Rust does not. The
+//! library finds what an entry replaces by an array of places, plain Rust what stands by a hash map.
 //!
 //! The most entries and the largest sums are compared at the end, and not measured.
 mod calls;
