@@ -1,10 +1,10 @@
--- Document 01's number of each answer. Assumes nothing.
+-- The number of each answer in documents 01 and 02. Assumes nothing.
 use Prim.Native.Nat.{ℕ}
 use Rattle.answers.specs.declared.Answer.{Answer}
 use Rattle.answers.specs.declared.Answer.the-variants.{Accepted, TooShort, WrongHeader, WrongLength, WrongPoint, Unreadable}
-use Rattle.answers.specs.declared.Answer.the-variants.{Outside, Unsound, AlreadyClosed, NotAbove, Full, Empty, ShortOutput}
+use Rattle.answers.specs.declared.Answer.the-variants.{Outside, Unsound, AlreadyClosed, NotAbove, Full, Empty, ShortOutput, ShortIndex}
 
--- 01, "Numbers from the input" and "Numbers from the state". "An accepted call gives number 0."
+-- 01, "Numbers from the input" and "Numbers from the state"; 02, Ticket 6, "17". "An accepted call gives number 0."
 abbrev pub numberOf : Answer → ℕ
 numberOf Accepted = 0
 numberOf TooShort = 1
@@ -19,3 +19,4 @@ numberOf NotAbove = 9
 numberOf Full = 10
 numberOf Empty = 11
 numberOf ShortOutput = 13
+numberOf ShortIndex = 17

@@ -1,8 +1,8 @@
-// What calls answer, and document 01's number of each answer.
+// What calls answer, and the number of each answer in documents 01 and 02.
 ghost use mathlib.Core.Path.{_≡_};
 ghost use Rattle.answers.specs.Numbers.{numberOf};
 
-// The answer of a call: accepted, or one of 01's refusals.
+// The answer of a call: accepted, or one of 01's refusals, or 02's.
 pub enum Answer {
     Accepted,
     TooShort,
@@ -17,10 +17,11 @@ pub enum Answer {
     Full,
     Empty,
     ShortOutput,
+    ShortIndex,
 }
 
 impl Answer {
-    // Document 01's number; 0 where the call was accepted.
+    // The documents' number; 0 where the call was accepted.
     pub fn number(self) -> u32
         ensures { λ r. ⌜ r ≡ numberOf self ⌝ }
     {
@@ -38,6 +39,7 @@ impl Answer {
             Answer::Full => 10,
             Answer::Empty => 11,
             Answer::ShortOutput => 13,
+            Answer::ShortIndex => 17,
         }
     }
 }
