@@ -1,1 +1,3 @@
+mod Clearing
+pub mod Comparing
 pub mod Laws
