@@ -1,16 +1,15 @@
-// A journal judged, without a book: how many entries it can hold, what stands before an entry, and what number
-// 7 of document 01 asks for, as definitions.
+// A journal judged, without a book: how many entries it can hold, which version supersedes another, and what
+// number 7 of document 01 asks for, as definitions.
 mod comparing;
 mod entering;
 mod room;
 
 pub use comparing::are_equal;
-pub use entering::standing_among;
 pub use entering::supersedes;
 pub use room::capacity;
 use worth::Figures;
 
-// Whether master data and journal are such as calls can have left, and then the totals summed from the
+// Whether master data, journal and index are such as calls can have left, and then the totals summed from the
 // journal; else every total is 0.
 pub struct Afresh {
     pub lawful: bool,

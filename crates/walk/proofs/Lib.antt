@@ -1,3 +1,4 @@
 mod Judging
+pub mod Noted
 mod Passing
 mod Summing
