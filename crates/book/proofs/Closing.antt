@@ -11,18 +11,18 @@ use Rattle.worth.specs.Figures.{nothing}
 use Rattle.machine.specs.Machine as machine
 use Rattle.machine.specs.Machine.{close}
 use Rattle.book.specs.declared.Book.{Book}
-use Rattle.book.specs.Library.{Lent, unsound, guards, withClosed, outcome, called, totalsGiven}
+use Rattle.book.specs.Library.{Lent, guards, withClosed, outcome, called, totalsGiven}
 use Rattle.book.proofs.Numbers.{sound-refused, sound-accepted}
-use Rattle.book.proofs.Sound.{sound}
+use Rattle.book.proofs.Sound.{Sound}
 
 module _ (b : Book) (l : Lent) where
   -- a closed book cannot be closed
-  pub closed-already : unsound b l ≡ false → b .closed ≡ true → outcome 8 b l ≡ called b l close
-  closed-already u h = sound-refused (sound b l u) close 8 (omega arith) (stop 8 0 h)
+  pub closed-already : Sound b l → b .closed ≡ true → outcome 8 b l ≡ called b l close
+  closed-already s h = sound-refused s close 8 (omega arith) (stop 8 0 h)
 
   -- an open one can
-  pub closed-now : unsound b l ≡ false → b .closed ≡ false → outcome 0 (withClosed b true) l ≡ called b l close
-  closed-now u h = sound-accepted (sound b l u) close (skip 8 0 h)
+  pub closed-now : Sound b l → b .closed ≡ false → outcome 0 (withClosed b true) l ≡ called b l close
+  closed-now s h = sound-accepted s close (skip 8 0 h)
 
   -- totals gives nothing beside a number
   pub given-nothing : (n : ℕ) (f : Figures) → 0 < n → n ≡ first (guards b l) → f ≡ nothing

@@ -1,3 +1,4 @@
+mod Alike
 mod Closing
 mod Deliveries
 pub mod Numbers

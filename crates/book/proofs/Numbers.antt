@@ -5,22 +5,30 @@ use mathlib.Core.Bool.{Bool, true, false, cond, _&&_}
 use borrow.Author.Tests.{eqb-true, not-true, not-false}
 use lib.Dec.{eqb}
 use Rattle.refusals.specs.Refusals.{first}
-use Rattle.refusals.proofs.First.{skip, stop, refuse, none-holds, all-passed, past, decided}
+use Rattle.refusals.proofs.First.{skip, stop, refuse, NoneHolds, none-holds, all-passed, past, decided}
 use Rattle.machine.specs.Machine.{Change, deliver, takeBack, close, conditions}
+use Rattle.index.specs.Index.{shortIndex}
 use Rattle.audit.specs.declared.Afresh.{Afresh}
 use Rattle.audit.specs.Audit.{afresh, allSame}
 use Rattle.book.specs.declared.Book.{Book}
 use Rattle.book.specs.Library.{Lent, view, unsound, guards, number, outcome, accepted, called, totalsGiven}
-use Rattle.book.proofs.Sound.{Sound, not-unsound, judged}
+use Rattle.book.proofs.Sound.{Sound, sound, not-short, not-unsound, judged}
 
 -- where none of the numbers before a call's own applies, the book is sound
-pub guarded : (b : Book) (l : Lent) → first (guards b l) ≡ 0 → unsound b l ≡ false
-guarded b l h = none-holds (guards b l) refl h .0
+pub guarded : (b : Book) (l : Lent) → first (guards b l) ≡ 0 → Sound b l
+guarded b l h = let n = none-holds (guards b l) refl h in sound b l (n .0) (n .1 .0)
+
+-- and where it is, none of them does
+passed : {b : Book} {l : Lent} → Sound b l → NoneHolds (guards b l)
+passed s = (not-short s, (not-unsound s, tt))
+
+pub unguarded : {b : Book} {l : Lent} → Sound b l → first (guards b l) ≡ 0
+unguarded {b} {l} s = all-passed (guards b l) (passed s)
 
 -- the number of a call on a sound book is the machine's
 pub sound-number : {b : Book} {l : Lent} → Sound b l → (c : Change) → number b l c ≡ first (conditions (view b l) c)
 unfolding number
-sound-number {b} {l} s c = past (guards b l) (conditions (view b l) c) (not-unsound s, tt)
+sound-number {b} {l} s c = past (guards b l) (conditions (view b l) c) (passed s)
 
 -- a call with number 0 is accepted
 pub called-accepted : (b : Book) (l : Lent) (c : Change) → number b l c ≡ 0 → accepted b l c ≡ called b l c
@@ -61,17 +69,20 @@ called-number b l c = go (eqb (number b l c) 0) refl
     go true e = zero-number c ∙ sym (eqb-true (number b l c) 0 e)
     go false e = refl
 
--- What the test of the sums afresh says of the numbers before a call's own.
-module _ (b : Book) (l : Lent) (r : Afresh) (equal : Bool) (e : r ≡ afresh (b .master) (b .length) (l .journal))
-    (q : equal ≡ allSame (b .totals) (r .totals)) where
+-- What the tests of the index's length and of the sums afresh say of the numbers before a call's own.
+pub judged-short : (b : Book) (l : Lent) → shortIndex (b .master .count) (l .index) ≡ true → 17 ≡ first (guards b l)
+judged-short b l h = sym (stop 17 _ h)
+
+module _ (b : Book) (l : Lent) (long : shortIndex (b .master .count) (l .index) ≡ false) (r : Afresh) (equal : Bool)
+    (e : r ≡ afresh (b .master) (b .length) (l .journal) (l .index)) (q : equal ≡ allSame (b .totals) (r .totals)) where
   pub judged-sound : (r .lawful && equal) ≡ true → 0 ≡ first (guards b l)
-  judged-sound h = sym (skip 7 0 (not-true (unsound b l) (sym (judged b l r equal e q) ∙ h)))
+  judged-sound h = sym (skip 17 _ long ∙ skip 7 0 (not-true (unsound b l) (sym (judged b l r equal e q) ∙ h)))
 
   pub judged-unsound : (r .lawful && equal) ≡ false → 7 ≡ first (guards b l)
-  judged-unsound h = sym (stop 7 0 (not-false (unsound b l) (sym (judged b l r equal e q) ∙ h)))
+  judged-unsound h = sym (skip 17 _ long ∙ stop 7 0 (not-false (unsound b l) (sym (judged b l r equal e q) ∙ h)))
 
 -- what totals gives of a sound book
 pub sound-given : {b : Book} {l : Lent} → Sound b l
     → totalsGiven b l ≡ record { number = 0; figures = b .totals; entries = b .length }
 unfolding totalsGiven
-sound-given {b} {l} s = rw (all-passed (guards b l) (not-unsound s, tt))
+sound-given {b} {l} s = rw (unguarded s)

@@ -1,32 +1,41 @@
--- What a book has that is not unsound: number 7 of document 01, taken apart and put together. Assumes nothing.
+-- What a book has that is sound, with an index that is long enough: number 7 of document 01, and 17, taken apart and put together.
+-- Assumes nothing.
 use Prim.Native.Nat.{_≤_}
 use mathlib.Core.Path.{_≡_, refl, sym, ap, ap₂, _∙_}
 use mathlib.Core.Bool.{Bool, true, false, cond, not, _&&_, _||_}
 use borrow.Author.Tests.{ltb-false, le-ltb, not-false}
 use lib.ListN.{length}
+use Rattle.calendar.specs.Calendar.{quartersOf}
+use Rattle.index.specs.Index.{shortIndex}
+use Rattle.index.proofs.Comparing as Comparing
 use Rattle.refusals.proofs.Tests.{neither, not-not}
 use Rattle.machine.specs.Machine.{capacityOf, totalsIn}
 use Rattle.audit.specs.declared.Afresh.{Afresh}
 use Rattle.master_data.specs.Master.{frameOf, wrongMonth, wrongPoint}
-use Rattle.audit.specs.Audit.{tooLong, anyStopped, unlawful, noSums, afresh, allSame, wrongTotals}
+use Rattle.audit.specs.Audit.{tooLong, anyStopped, wrongIndex, unlawful, noSums, afresh, allSame, wrongTotals}
 use Rattle.audit.proofs.Equal.{all-same, all-self}
 use Rattle.master_data.proofs.Ranged.{Ranged}
+use Rattle.walk.specs.Walk.{indexTo}
+use Rattle.walk.proofs.Noted.{Noted}
 use Rattle.book.specs.declared.Book.{Book}
 use Rattle.book.specs.Library.{Lent, view, unsound}
 
--- the facts that number 7 asks for, on a book and what is lent
+-- the facts that 7 and 17 ask for, of a book and what is lent
 pub record Sound (b : Book) (l : Lent) : Type 0 where
   pub ranged : Ranged (b .master)
   pub short : b .length ≤ capacityOf (length (l .journal))
   pub entries : anyStopped (frameOf (b .master)) (b .length) (l .journal) ≡ false
   pub totals : b .totals ≡ totalsIn (view b l)
+  pub index : l .index ≡ indexTo (b .master) (b .length) (l .journal) (l .index)
 
--- a book that is not unsound has these facts
-pub sound : (b : Book) (l : Lent) → unsound b l ≡ false → Sound b l
-unfolding unsound unlawful tooLong wrongTotals
-sound b l h =
+-- a book that is not unsound has these facts, if the index is not too short
+pub sound : (b : Book) (l : Lent) → shortIndex (b .master .count) (l .index) ≡ false → unsound b l ≡ false → Sound b l
+unfolding unsound unlawful tooLong wrongTotals wrongIndex
+sound b l long h =
+    let m = b .master in
     let t = neither _ (wrongTotals (b .master) (b .length) (l .journal) (b .totals)) h in
-    let e = neither _ (anyStopped (frameOf (b .master)) (b .length) (l .journal)) (t .0) in
+    let x = neither _ (wrongIndex (b .master) (b .length) (l .journal) (l .index)) (t .0) in
+    let e = neither _ (anyStopped (frameOf (b .master)) (b .length) (l .journal)) (x .0) in
     let s = neither _ (tooLong (b .length) (l .journal)) (e .0) in
     let p = neither (wrongMonth (b .master)) (wrongPoint (b .master)) (s .0) in
     record {
@@ -34,22 +43,40 @@ sound b l h =
       short = ltb-false _ _ (s .1);
       entries = e .1;
       totals = all-same _ _ (not-false _ (t .1));
+      index =
+          Comparing.says (m .count) (quartersOf (m .year) (m .month)) (b .length) (l .journal) (l .index)
+          (Comparing.long-enough (m .count) (l .index) long) (x .1);
     }
 
--- and one that has them is not unsound
+-- the index of a book that has them says what stands in L
+pub noted : {b : Book} {l : Lent} → Sound b l → Noted (b .master) (b .length) (l .journal) (l .index) (l .index)
+noted {b} {l} s =
+    let m = b .master in
+    record {
+      long = Comparing.said-long (m .count) (quartersOf (m .year) (m .month)) (b .length) (l .journal) (l .index) (s .index);
+      says = s .index;
+    }
+
+-- it is not too short
+pub not-short : {b : Book} {l : Lent} → Sound b l → shortIndex (b .master .count) (l .index) ≡ false
+not-short {b} {l} s = Comparing.not-short (b .master .count) (l .index) (noted s .long)
+
+-- and the book is not unsound
 pub not-unsound : {b : Book} {l : Lent} → Sound b l → unsound b l ≡ false
-unfolding unsound unlawful tooLong wrongTotals
+unfolding unsound unlawful tooLong wrongTotals wrongIndex
 not-unsound {b} {l} s =
+    let m = b .master in
     let t : allSame (b .totals) (totalsIn (view b l)) ≡ true = ap (allSame (b .totals)) (sym (s .totals)) ∙ all-self (b .totals) in
-    rw (s .ranged .month, s .ranged .point, le-ltb _ _ (s .short), s .entries, t)
+    let x = Comparing.said (m .count) (quartersOf (m .year) (m .month)) (b .length) (l .journal) (l .index) (s .index) in
+    rw (s .ranged .month, s .ranged .point, le-ltb _ _ (s .short), s .entries, x, t)
 
 -- the test of the sums afresh
-pub judged : (b : Book) (l : Lent) (r : Afresh) (equal : Bool) → r ≡ afresh (b .master) (b .length) (l .journal)
+pub judged : (b : Book) (l : Lent) (r : Afresh) (equal : Bool) → r ≡ afresh (b .master) (b .length) (l .journal) (l .index)
     → equal ≡ allSame (b .totals) (r .totals) → (r .lawful && equal) ≡ not (unsound b l)
 unfolding afresh unsound wrongTotals
 judged b l r equal e q =
     ap₂ (λ (x : Afresh) (y : Bool). x .lawful && y) e (q ∙ ap (λ (x : Afresh). allSame (b .totals) (x .totals)) e)
-    ∙ go (unlawful (b .master) (b .length) (l .journal))
+    ∙ go (unlawful (b .master) (b .length) (l .journal) (l .index))
   where
     sums : Afresh
     sums = record { lawful = true; totals = totalsIn (view b l) }

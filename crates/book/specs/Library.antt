@@ -15,22 +15,25 @@ use Rattle.machine.specs.Machine as machine
 use Rattle.machine.specs.Machine.{State, Change, deliver, takeBack, close, Call, change, totals, capacityOf, conditions}
 use Rattle.machine.specs.Machine.{worthIn, numberAlone}
 use Rattle.journal.specs.Journal.{entryAt, entries, standingPlace}
+use Rattle.index.specs.Index.{shortIndex}
 use Rattle.master_data.specs.Master.{frameOf}
 use Rattle.audit.specs.Audit.{unlawful, wrongTotals}
 use Rattle.restating.specs.Restating.{restated, worthAt}
+use Rattle.walk.specs.Walk.{indexTo}
 use Rattle.book.specs.declared.Book.{Book}
 use Rattle.book.specs.declared.Totals.{Totals}
 
--- What is lent to a call: the bytes of the journal.
+-- What is lent to a call: the bytes of the journal, and the places of 02's index, "kept beside the journal".
 pub record Lent : Type 0 where
   pub journal : List ℕ
+  pub index : List ℕ
 
-abbrev pub lent : List ℕ → Lent
-lent j = record { journal = j }
+abbrev pub lent : List ℕ → List ℕ → Lent
+lent j x = record { journal = j; index = x }
 
--- what is lent, with another journal
-abbrev pub withJournal : Lent → List ℕ → Lent
-withJournal l j = record { journal = j }
+-- what is lent, with another index
+abbrev pub withIndex : Lent → List ℕ → Lent
+withIndex l x = lent (l .journal) x
 
 -- a book with another length of L, with other totals, and one that is closed or open
 abbrev pub withLength : Book → ℕ → Book
@@ -53,14 +56,15 @@ view b l =
     }
 
 -- 7: "Unsound book: a year, month, count of points or point value .., L longer than capacity, an entry that 5, 6 or 9 would have
--- stopped, or a stored total that isn't the sum afresh"
+-- stopped, or a stored total that isn't the sum afresh"; 02, Ticket 6: "a book whose index doesn't [say what a walk over L would say]"
 unfoldable pub unsound : Book → Lent → Bool
 unsound b l =
-    unlawful (b .master) (b .length) (l .journal) || wrongTotals (b .master) (b .length) (l .journal) (b .totals)
+    unlawful (b .master) (b .length) (l .journal) (l .index) || wrongTotals (b .master) (b .length) (l .journal) (b .totals)
 
--- the numbers that come before a call's own ones, of every call: "Deliver: 7, .. Take back: 7, .. Close: 7, .. Totals: 7. Write: 7, .."
+-- the numbers that come before a call's own ones, of every call: "Deliver: 7, .. Take back: 7, .. Close: 7, .. Totals: 7. Write: 7, ..";
+-- 02, Ticket 6: "17 if the index slice is shorter than the points need, before 7"
 abbrev pub guards : Book → Lent → List (ℕ × Bool)
-guards b l = (7, unsound b l) ∷ []
+guards b l = (17, shortIndex (b .master .count) (l .index)) ∷ (7, unsound b l) ∷ []
 
 unfoldable pub number : Book → Lent → Change → ℕ
 number b l c = first (guards b l ++ conditions (view b l) c)
@@ -94,13 +98,19 @@ pub record Outcome : Type 0 where
 abbrev pub outcome : ℕ → Book → Lent → Outcome
 outcome n b l = record { number = n; book = b; lent = l }
 
+-- 02, Ticket 6: "After each call on a sound book the index says just what a walk over L would say", L being the first n entries of the
+-- journal j; "no call writes to places past them"
+abbrev pub relent : Book → Lent → ℕ → List ℕ → Lent
+relent b l n j = lent j (indexTo (b .master) n j (l .index))
+
 -- "Deliver appends an entry to L, in the 12 bytes after the last; all other bytes keep their values." "Take back drops the last
 -- entry of L and zeroes its 12 bytes, no others." "Close sets the mark."
 abbrev pub accepted : Book → Lent → Change → Outcome
 accepted b l (deliver bytes) =
-    outcome 0 (posted b l (entryIn bytes)) (withJournal l (paste (l .journal) (12 * b .length) bytes 12))
+    outcome 0 (posted b l (entryIn bytes)) (relent b l (b .length + 1) (paste (l .journal) (12 * b .length) bytes 12))
 accepted b l takeBack =
-    outcome 0 (unposted b l) (withJournal l (paste (l .journal) (12 * (b .length - 1)) (replicate 12 0) 12))
+    let last = b .length - 1 in
+    outcome 0 (unposted b l) (relent b l last (paste (l .journal) (12 * last) (replicate 12 0) 12))
 accepted b l close = outcome 0 (withClosed b true) l
 
 -- "A refused call changes neither book nor buffer"

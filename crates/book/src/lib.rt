@@ -1,7 +1,7 @@
 // The settlement book of one month, document 01, "The book as a plain machine".
 //
-// A book is a value: a call takes it, with the journal that its entries lie in, and hands it back.
-// `specs/Library.antt` says what each call does to book and journal.
+// A book is a value: a call takes it, with the journal that its entries lie in and the index that says which of
+// them stand, and hands it back. `specs/Library.antt` says what each call does to book, journal and index.
 mod calls;
 mod judgement;
 

@@ -1,13 +1,13 @@
 -- `book::Book::close` meets its contract. Assumes nothing.
-use mathlib.Core.Path.{_≡_, sym, ap, _∙_}
-use mathlib.Core.Bool.{false}
+use mathlib.Core.Path.{sym, ap, _∙_}
 use Rattle.machine.specs.Machine.{close}
 use Rattle.answers.specs.Numbers.{numberOf}
 use Rattle.answers.proofs.Refusing.{refused-number}
-use Rattle.book.specs.Library.{lent, unsound}
+use Rattle.book.specs.Library.{lent}
 use Rattle.book.proofs.Closing.{closed-already, closed-now}
 use Rattle.book.proofs.Numbers.{guarded, guard-refused}
 use Rattle.book.proofs.Replies.{replied}
+use Rattle.book.proofs.Sound.{Sound}
 use borrow.Author.Needs.{needs}
 use Rattle.book.proofs.Book.close.Statement.{statement}
 use Rattle.book.proofs.Book.close.Tie as tie
@@ -31,7 +31,8 @@ reply-requires-2 : tie.Need-reply-requires-2
 reply-requires-2 c κs = search needs
 
 -- the book was judged, and is sound
-lawful : (c : tie.After-enum-told) → let s = c .before .before .before .before in unsound (s .args .self) (lent (s .args .journal .now)) ≡ false
+lawful : (c : tie.After-enum-told)
+    → let s = c .before .before .before .before .before in Sound (s .args .self) (lent (s .args .journal .now) (s .args .index .now))
 lawful c = let j = c .before .before .judge in guarded _ _ (sym (j .ensures) ∙ ap numberOf (c .enum-told .given .1))
 
 returns-2 : tie.Need-returns-2

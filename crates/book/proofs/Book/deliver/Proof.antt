@@ -22,6 +22,9 @@ reply-requires c κs = search needs
 same-length : tie.Need-same-length
 same-length c = search needs
 
+same-length-2 : tie.Need-same-length-2
+same-length-2 c = search needs
+
 returns : tie.Need-returns
 returns c =
     let q = c .before in
@@ -40,8 +43,11 @@ enum-told-2 c = search needs
 reply-requires-2 : tie.Need-reply-requires-2
 reply-requires-2 c κs = search needs
 
-same-length-2 : tie.Need-same-length-2
-same-length-2 c = search needs
+same-length-3 : tie.Need-same-length-3
+same-length-3 c = search needs
+
+same-length-4 : tie.Need-same-length-4
+same-length-4 c = search needs
 
 returns-2 : tie.Need-returns-2
 returns-2 c =
@@ -55,16 +61,19 @@ returns-2 c =
 
 deliver-entry-requires : tie.Need-deliver-entry-requires
 deliver-entry-requires c κs =
-    let read = c .before .before in
+    let read = c .before .before .before in
     let decoded = read .before .before in
     let told = decoded .before in
     let j = told .before .before .judge in (
-      guarded _ _ (sym (j .ensures) ∙ ap numberOf (told .enum-told .given .1)),
+      sym (j .ensures) ∙ ap numberOf (told .enum-told .given .1),
       sym (entry-decoded _ _ (decoded .decode-entry .ensures)) ∙ read .entry .given .1,
     )
 
-same-length-3 : tie.Need-same-length-3
-same-length-3 c = search needs
+same-length-5 : tie.Need-same-length-5
+same-length-5 c = search needs
+
+same-length-6 : tie.Need-same-length-6
+same-length-6 c = search needs
 
 returns-3 : tie.Need-returns-3
 returns-3 c = search needs
@@ -77,13 +86,16 @@ deliver-spec =
     enum-told
     reply-requires
     same-length
+    same-length-2
     returns
     decode-entry-requires
     enum-known-entry
     enum-told-2
     reply-requires-2
-    same-length-2
+    same-length-3
+    same-length-4
     returns-2
     deliver-entry-requires
-    same-length-3
+    same-length-5
+    same-length-6
     returns-3)

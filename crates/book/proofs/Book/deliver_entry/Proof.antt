@@ -1,22 +1,32 @@
 -- `book::Book::deliver_entry` meets its contract. Assumes nothing.
-use mathlib.Core.Path.{sym, _∙_}
+use mathlib.Core.Path.{_≡_, refl, sym, _∙_}
+use mathlib.Core.Bool.{false}
 use native.Mathlib.Omega.{arith}
 use Rattle.answers.proofs.Refusing.{refused-number}
-use Rattle.audit.proofs.Placed.{read-range, read-size, placed, placed-read, entries-room}
+use Rattle.machine.specs.Machine.{outside}
+use Rattle.master_data.specs.Master.{frameOf}
+use Rattle.audit.proofs.Placed.{read-range, read-size, placed, placed-read}
 use Rattle.book.specs.Library.{lent}
-use Rattle.book.proofs.Deliveries.{Given, Answered, is-out, is-refused, has-room, counts, is-posted}
+use Rattle.book.proofs.Deliveries.{Given, Answered, is-out, is-place, names, looks, is-refused, has-room, counts, is-posted}
+use Rattle.book.proofs.Numbers.{guarded}
 use Rattle.book.proofs.Replies.{replied}
-use Rattle.book.proofs.Sound.{sound}
 use borrow.Author.Needs.{needs}
 use Rattle.book.proofs.Book.deliver_entry.Statement.{statement}
 use Rattle.book.proofs.Book.deliver_entry.Tie as tie
 
 -- the entry is given in a sound book
-given : (c : tie.Start) → Given (c .args .self) (lent (c .args .journal .now)) (c .args .bytes .now) (c .args .entry)
-given c = record { lawful = c .pre .0; read = c .pre .1 }
+given : (c : tie.Start)
+    → Given (c .args .self) (lent (c .args .journal .now) (c .args .index .now)) (c .args .bytes .now) (c .args .entry)
+given c = record { sound = guarded _ _ (c .pre .0); read = c .pre .1 }
+
+-- it is not outside
+within : (c : tie.Else1)
+    → let s = c .before .before .before .before .before .before in
+    outside (frameOf (s .args .self .master)) (s .args .entry .point) (s .args .entry .quarter) ≡ false
+within c = sym (c .before .is-outside .ensures) ∙ c .if1 .left
 
 is-outside-requires : tie.Need-is-outside-requires
-is-outside-requires c κs = sound _ _ (c .before .before .before .pre .0) .ranged .month
+is-outside-requires c κs = given (c .before .before .before .before) .sound .ranged .month
 
 reply-requires : tie.Need-reply-requires
 reply-requires c κs = search needs
@@ -25,12 +35,26 @@ returns : tie.Need-returns
 returns c =
     let q = c .before in
     let out = q .before in
-    replied (c .reply .ensures) (is-out (given (out .before .before .before .before)) (sym (out .is-outside .ensures) ∙ q .if1 .taken))
+    replied (c .reply .ensures) (is-out (given (out .before .before .before .before .before)) (sym (out .is-outside .ensures) ∙ q .if1 .taken))
 
-standing-among-requires : tie.Need-standing-among-requires
-standing-among-requires c κs =
-    let s = c .before .before .before .before .before .before in
-    (entries-room _ _ (sound _ _ (s .pre .0) .short), read-range _ _ (s .pre .1) .quarter)
+key-place-requires : tie.Need-key-place-requires
+key-place-requires c κs = search needs
+
+mul-replaced : tie.Need-mul-replaced
+mul-replaced c = search needs
+
+slice-read-replaced : tie.Need-slice-read-replaced
+slice-read-replaced c =
+    let own = c .before in
+    is-place (given (own .before .before .before .before .before .before .before)) (within (own .before)) _ (own .key-place .ensures)
+
+cast-replaced : tie.Need-cast-replaced
+cast-replaced c = record { fits = omega (arith, c .slice-known3 .given (c .before .key-place .result) .fits) }
+
+found-at-requires : tie.Need-found-at-requires
+found-at-requires c κs =
+    let own = c .before .before in
+    names (given (own .before .before .before .before .before .before .before)) (within (own .before)) _ (own .key-place .ensures)
 
 supersedes-requires : tie.Need-supersedes-requires
 supersedes-requires c κs = search needs
@@ -50,21 +74,25 @@ reply-requires-2 c κs = search needs
 same-length : tie.Need-same-length
 same-length c = search needs
 
+-- where its place was found
+abbrev keyed : (c : tie.After-delivery-answer) → tie.After-key-place
+keyed c = c .before .before .before .before .before .before .before
+
 -- all conditions were tested
 answered : (c : tie.After-delivery-answer)
-    → let s = c .before .before .before .before .before .before .before .before .before .before .before in
-    Answered (s .args .self) (lent (s .args .journal .now)) (s .args .bytes .now) (s .args .entry) (c .before .before .before .before .standing-among .result)
-    (c .delivery-answer .result)
+    → let s = keyed c .before .before .before .before .before .before .before in
+    Answered (s .args .self) (lent (s .args .journal .now) (s .args .index .now)) (s .args .bytes .now) (s .args .entry)
+    (c .before .before .before .before .found-at .result) (c .delivery-answer .result)
 answered c =
     let room = c .before in
     let above = room .before .before in
-    let stands = above .before in
-    let inside = stands .before .before in
-    let out = inside .before in
+    let found = above .before in
+    let own = keyed c in
+    let g = given (own .before .before .before .before .before .before .before) in
     record {
-      given = given (out .before .before .before .before);
-      within = sym (out .is-outside .ensures) ∙ inside .if1 .left;
-      looked = stands .standing-among .ensures;
+      given = g;
+      within = within (own .before);
+      looked = looks g (within (own .before)) _ (own .key-place .ensures) (found .found-at .ensures);
       room = room .capacity .result;
       asked = room .capacity .ensures;
       rises = above .supersedes .result;
@@ -81,30 +109,51 @@ returns-2 c =
 write-at-requires : tie.Need-write-at-requires
 write-at-requires c κs =
     let told = c .before in
-    let k = told .before .before in
-    let s = answered k .given in
-    (has-room (answered k) (told .enum-told .given .1), read-size _ _ (s .read))
+    let k = answered (told .before .before) in
+    (has-room k (told .enum-told .given .1), read-size _ _ (k .given .read))
 
 add-longer : tie.Need-add-longer
 add-longer c =
     let told = c .before .before .before .before in
-    record { fits = omega (arith, counts (answered (told .before .before)) (told .enum-told .given .1)) }
+    let k = told .before .before in
+    record { fits = omega (arith, counts (answered k) (told .enum-told .given .1)) }
+
+cast-index : tie.Need-cast-index
+cast-index c =
+    let told = c .before .before .before .before in
+    let k = told .before .before in
+    record { fits = omega (arith, counts (answered k) (told .enum-told .given .1)) }
+
+mul-index : tie.Need-mul-index
+mul-index c =
+    let told = c .before .before .before .before in
+    let k = told .before .before in
+    let r = read-range _ _ (answered k .given .read) in
+    record { fits = omega (arith, keyed k .key-place .ensures, r .point, r .quarter) }
+
+slice-write-index : tie.Need-slice-write-index
+slice-write-index c =
+    let k = answered (c .before .before .before .before .before .before) in
+    is-place (k .given) (k .within) _ (keyed (c .before .before .before .before .before .before) .key-place .ensures)
+
+restated-requires : tie.Need-restated-requires
+restated-requires c κs =
+    let k = answered (c .before .before .before .before .before .before) in
+    let r = read-range _ _ (k .given .read) in
+    (r .point, (placed-read _ r, placed _ _ _ (k .looked)))
 
 same-length-2 : tie.Need-same-length-2
 same-length-2 c = search needs
+
+same-length-3 : tie.Need-same-length-3
+same-length-3 c = search needs
 
 returns-3 : tie.Need-returns-3
 returns-3 c =
     let written = c .before .before .before in
     let told = written .before .before in
-    is-posted (answered (told .before .before)) (told .enum-told .given .1) (written .write-at .ensures) (c .restated .ensures)
-
-restated-requires : tie.Need-restated-requires
-restated-requires c κs =
-    let told = c .before .before .before .before in
-    let k = answered (told .before .before) in
-    let r = read-range _ _ (k .given .read) in
-    (r .point, (placed-read _ r, placed _ _ _ (k .looked)))
+    let k = told .before .before in
+    is-posted (answered k) (told .enum-told .given .1) _ (keyed k .key-place .ensures) (written .write-at .ensures) refl (c .restated .ensures)
 
 pub deliver-entry-spec : {M : Type 1} → statement M
 deliver-entry-spec =
@@ -113,7 +162,11 @@ deliver-entry-spec =
     is-outside-requires
     reply-requires
     returns
-    standing-among-requires
+    key-place-requires
+    mul-replaced
+    slice-read-replaced
+    cast-replaced
+    found-at-requires
     supersedes-requires
     capacity-requires
     delivery-answer-requires
@@ -123,6 +176,10 @@ deliver-entry-spec =
     returns-2
     write-at-requires
     add-longer
+    cast-index
+    mul-index
+    slice-write-index
     restated-requires
     same-length-2
+    same-length-3
     returns-3)

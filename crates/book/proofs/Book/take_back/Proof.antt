@@ -2,7 +2,7 @@
 use mathlib.Core.Path.{sym, ap, _∙_}
 use Rattle.answers.specs.Numbers.{numberOf}
 use Rattle.answers.proofs.Refusing.{refused-number}
-use Rattle.book.proofs.Numbers.{guarded, guard-refused}
+use Rattle.book.proofs.Numbers.{guard-refused}
 use Rattle.book.proofs.Replies.{replied}
 use borrow.Author.Needs.{needs}
 use Rattle.book.proofs.Book.take_back.Statement.{statement}
@@ -20,6 +20,9 @@ reply-requires c κs = search needs
 same-length : tie.Need-same-length
 same-length c = search needs
 
+same-length-2 : tie.Need-same-length-2
+same-length-2 c = search needs
+
 returns : tie.Need-returns
 returns c =
     let q = c .before in
@@ -28,12 +31,15 @@ returns c =
 
 take-back-sound-requires : tie.Need-take-back-sound-requires
 take-back-sound-requires c κs =
-    let told = c .before in
+    let told = c .before .before in
     let j = told .before .before .judge in
-    guarded _ _ (sym (j .ensures) ∙ ap numberOf (told .enum-told .given .1))
+    sym (j .ensures) ∙ ap numberOf (told .enum-told .given .1)
 
-same-length-2 : tie.Need-same-length-2
-same-length-2 c = search needs
+same-length-3 : tie.Need-same-length-3
+same-length-3 c = search needs
+
+same-length-4 : tie.Need-same-length-4
+same-length-4 c = search needs
 
 returns-2 : tie.Need-returns-2
 returns-2 c = search needs
@@ -46,7 +52,9 @@ take-back-spec =
     enum-told
     reply-requires
     same-length
+    same-length-2
     returns
     take-back-sound-requires
-    same-length-2
+    same-length-3
+    same-length-4
     returns-2)

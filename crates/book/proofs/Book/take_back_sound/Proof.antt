@@ -2,9 +2,10 @@
 use mathlib.Core.Path.{refl, sym, _∙_}
 use native.Mathlib.Omega.{arith}
 use Rattle.answers.proofs.Refusing.{refused-number}
-use Rattle.audit.proofs.Placed.{read-range, placed, placed-read}
+use Rattle.audit.proofs.Placed.{read-range, placed, placed-read, place-room}
 use Rattle.book.specs.Library.{lent}
-use Rattle.book.proofs.TakingBack.{Answered, is-refused, is-some, lies, is-read, is-unposted}
+use Rattle.book.proofs.Numbers.{guarded}
+use Rattle.book.proofs.TakingBack.{Answered, is-refused, is-some, lies, is-read, is-place, position-small, is-unposted}
 use Rattle.book.proofs.Replies.{replied}
 use borrow.Author.Needs.{needs}
 use Rattle.entry_record.proofs.Laws.{entry-decoded}
@@ -22,9 +23,9 @@ reply-requires c κs = search needs
 
 -- both conditions were tested
 answered : (c : tie.After-taking-back-answer)
-    → let s = c .before .before in
-    Answered (s .args .self) (lent (s .args .journal .now)) (c .taking-back-answer .result)
-answered c = record { lawful = c .before .before .pre; number = c .taking-back-answer .ensures }
+    → let s = c .before .before .before in
+    Answered (s .args .self) (lent (s .args .journal .now) (s .args .index .now)) (c .taking-back-answer .result)
+answered c = record { sound = guarded _ _ (c .before .before .before .pre); number = c .taking-back-answer .ensures }
 
 returns : tie.Need-returns
 returns c =
@@ -59,42 +60,73 @@ returns-2 c =
     let told = read .before .before in
     absurd (is-read (answered (told .before .before)) (told .enum-told .given .1) (sym (entry-decoded _ _ (read .entry-at .ensures)) ∙ q .enum-told2 .given .1))
 
-standing-among-requires : tie.Need-standing-among-requires
-standing-among-requires c κs =
+standing-place-requires : tie.Need-standing-place-requires
+standing-place-requires c κs =
     let known = c .before .before in
     let read = known .before .before in
     let told = read .before .before in
     let room = lies (answered (told .before .before)) (told .enum-told .given .1) in
     (omega (arith, room), read-range _ _ (sym (entry-decoded _ _ (read .entry-at .ensures)) ∙ known .entry .given .1) .quarter)
 
+found-at-requires : tie.Need-found-at-requires
+found-at-requires c κs =
+    let stood = c .before in
+    let told = stood .before .before .before .before .before .before .before in
+    let room = lies (answered (told .before .before)) (told .enum-told .given .1) in
+    place-room _ _ _ _ _ (omega (arith, room)) (stood .standing-place .ensures)
+
 slice-aggregate-write-at : tie.Need-slice-aggregate-write-at
 slice-aggregate-write-at c = search needs
 
 write-at-requires : tie.Need-write-at-requires
 write-at-requires c κs =
-    let told = c .before .before .before .before .before .before .before .before .before in
+    let told = c .before .before .before .before .before .before .before .before .before .before .before in
     (lies (answered (told .before .before)) (told .enum-told .given .1), refl)
+
+key-place-requires : tie.Need-key-place-requires
+key-place-requires c κs = search needs
+
+cast-index : tie.Need-cast-index
+cast-index c =
+    let stood = c .before .before .before .before .before .before .before .before in
+    let told = stood .before .before .before .before .before .before .before in
+    record { fits = position-small (answered (told .before .before)) (told .enum-told .given .1) _ _ (stood .standing-place .ensures) }
+
+mul-index : tie.Need-mul-index
+mul-index c = search needs
+
+slice-write-index : tie.Need-slice-write-index
+slice-write-index c =
+    let known = c .before .before .before .before .before .before .before .before .before .before .before in
+    let read = known .before .before in
+    let told = read .before .before in
+    is-place (answered (told .before .before)) (told .enum-told .given .1) (sym (entry-decoded _ _ (read .entry-at .ensures)) ∙ known .entry .given .1)
+    _ (c .key-place .ensures)
+
+restated-requires : tie.Need-restated-requires
+restated-requires c κs =
+    let found = c .before .before .before .before .before .before in
+    let known = found .before .before .before .before .before in
+    let r = read-range _ _ (sym (entry-decoded _ _ (known .before .before .entry-at .ensures)) ∙ known .entry .given .1) in
+    (r .point, (placed _ _ _ (found .found-at .ensures), placed-read _ r))
 
 same-length-2 : tie.Need-same-length-2
 same-length-2 c = search needs
 
+same-length-3 : tie.Need-same-length-3
+same-length-3 c = search needs
+
 returns-3 : tie.Need-returns-3
 returns-3 c =
-    let written = c .before .before .before in
-    let stands = written .before .before .before in
-    let known = stands .before .before .before in
+    let own = c .before in
+    let written = own .before .before .before in
+    let found = written .before .before .before in
+    let stood = found .before .before in
+    let known = stood .before .before .before in
     let read = known .before .before in
     let told = read .before .before in
     is-unposted (answered (told .before .before)) (told .enum-told .given .1) (sym (entry-decoded _ _ (read .entry-at .ensures)) ∙ known .entry .given .1)
-    (stands .standing-among .ensures) (written .write-at .ensures) (c .restated .ensures)
-
-restated-requires : tie.Need-restated-requires
-restated-requires c κs =
-    let stands = c .before .before .before .before .before in
-    let known = stands .before .before .before in
-    let read = known .before .before in
-    let r = read-range _ _ (sym (entry-decoded _ _ (read .entry-at .ensures)) ∙ known .entry .given .1) in
-    (r .point, (placed _ _ _ (stands .standing-among .ensures), placed-read _ r))
+    _ (own .key-place .ensures) (stood .standing-place .ensures) (found .found-at .ensures) (written .write-at .ensures) refl (c .restated .ensures)
 
 pub take-back-sound-spec : {M : Type 1} → statement M
 take-back-sound-spec =
@@ -111,9 +143,15 @@ take-back-sound-spec =
     reply-requires-2
     same-length
     returns-2
-    standing-among-requires
+    standing-place-requires
+    found-at-requires
     slice-aggregate-write-at
     write-at-requires
+    key-place-requires
+    cast-index
+    mul-index
+    slice-write-index
     restated-requires
     same-length-2
+    same-length-3
     returns-3)

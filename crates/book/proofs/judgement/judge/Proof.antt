@@ -1,27 +1,59 @@
 -- `book::judgement::judge` meets its contract. Assumes nothing.
+use mathlib.Core.Path.{_≡_, ap, _∙_}
+use mathlib.Core.Bool.{false}
+use native.Mathlib.Omega.{arith}
 use borrow.Author.Needs.{needs}
+use lib.ListN.{length}
+use Rattle.index.specs.Index.{shortIndex}
+use Rattle.index.proofs.Comparing.{is-short, not-short}
 use Rattle.book.specs.Library.{lent}
-use Rattle.book.proofs.Numbers.{judged-sound, judged-unsound}
+use Rattle.book.proofs.Numbers.{judged-short, judged-sound, judged-unsound}
 use Rattle.book.proofs.judgement.judge.Statement.{statement}
 use Rattle.book.proofs.judgement.judge.Tie as tie
 
+places-of-requires : tie.Need-places-of-requires
+places-of-requires c κs = search needs
+
+returns : tie.Need-returns
+returns c =
+    let p = c .before in
+    judged-short (p .before .before .before .before .args .book) _ (is-short _ _ (omega (arith, p .places-of .ensures, c .if1 .taken)))
+
+-- the index was tested, and is long enough
+long : (c : tie.Else1)
+    → let s = c .before .before .before .before .before in
+    shortIndex (s .args .book .master .count) (s .args .index .now) ≡ false
+long c = let p = c .before in not-short _ _ (omega (arith, p .places-of .ensures, c .if1 .left))
+
 summed-afresh-requires : tie.Need-summed-afresh-requires
-summed-afresh-requires c κs = search needs
+summed-afresh-requires c κs = long (c .before)
 
 are-equal-requires : tie.Need-are-equal-requires
 are-equal-requires c κs = search needs
 
-returns : tie.Need-returns
-returns c =
-    let equal = c .before .before in
-    let a = c .before .before .before .before .before .before .before .before .args in
-    judged-sound (a .book) (lent (a .journal .now)) _ _ (equal .before .before .summed-afresh .ensures) (equal .are-equal .ensures) (c .if1 .taken)
-
 returns-2 : tie.Need-returns-2
 returns-2 c =
     let equal = c .before .before in
-    let a = c .before .before .before .before .before .before .before .before .args in
-    judged-unsound (a .book) (lent (a .journal .now)) _ _ (equal .before .before .summed-afresh .ensures) (equal .are-equal .ensures) (c .if1 .left)
+    let sums = equal .before .before in
+    let s = sums .before .before .before .before .before .before .before in
+    judged-sound (s .args .book) (lent (s .args .journal .now) (s .args .index .now)) (long (sums .before .before)) _ _ (sums .summed-afresh .ensures)
+    (equal .are-equal .ensures) (c .if2 .taken)
+
+returns-3 : tie.Need-returns-3
+returns-3 c =
+    let equal = c .before .before in
+    let sums = equal .before .before in
+    let s = sums .before .before .before .before .before .before .before in
+    judged-unsound (s .args .book) (lent (s .args .journal .now) (s .args .index .now)) (long (sums .before .before)) _ _ (sums .summed-afresh .ensures)
+    (equal .are-equal .ensures) (c .if2 .left)
 
 pub judge-spec : {M : Type 1} → statement M
-judge-spec = tie.close (tie.spec summed-afresh-requires are-equal-requires returns returns-2)
+judge-spec =
+    tie.close
+    (tie.spec
+    places-of-requires
+    returns
+    summed-afresh-requires
+    are-equal-requires
+    returns-2
+    returns-3)
