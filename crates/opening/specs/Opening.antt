@@ -1,4 +1,4 @@
--- What open gives: document 01, "Open reads a whole file's header and points", and its numbers 1 to 4. Assumes nothing.
+-- What open gives: document 01, "Open reads a whole file's header and points", its numbers 1 to 4, and 02's index. Assumes nothing.
 use Prim.Native.Nat.{ℕ, _+_, _-_, _*_}
 use mathlib.Core.Bool.{Bool, true, false, cond, not}
 use mathlib.Core.List.{List, [], _∷_, _++_}
@@ -11,8 +11,10 @@ use Rattle.point_record.specs.Point.{pointIn, wrongPoint, noPoint}
 use Rattle.refusals.specs.Refusals.{first}
 use Rattle.worth.specs.Figures.{nothing}
 use Rattle.lists.specs.Lists.{anyBelow, placesBelow}
+use Rattle.index.specs.Index.{shortIndex, cleared}
 use Rattle.master_data.specs.declared.MasterData.{MasterData}
 use Rattle.book.specs.declared.Book.{Book}
+use Rattle.book.specs.Library.{Lent, withIndex}
 
 -- the bytes of the header, and of the point at a place
 unfoldable pub headerBytes : List ℕ → List ℕ
@@ -39,17 +41,19 @@ anyWrong n file = anyBelow (λ i. wrongPoint (pointBytes i file)) n
 unfoldable pub wrongLength : List ℕ → Bool
 wrongLength file = not (eqb (length file) (7 + 21 * header file .points + 12 * header file .entries))
 
--- "Open: 1, 2, 3, 4."; 1: "Fewer than 7 bytes." 2: "A header field wrong."
-abbrev pub openingConditions : List ℕ → List (ℕ × Bool)
-openingConditions file =
+-- "Open: 1, 2, 3, 4."; 1: "Fewer than 7 bytes." 2: "A header field wrong."; 02, Ticket 6: "17 if the index slice is shorter than the
+-- points need, .. in open after 4"
+abbrev pub openingConditions : List ℕ → List ℕ → List (ℕ × Bool)
+openingConditions file x =
     (1, ltb (length file) 7)
     ∷ (2, wrongHeader (headerBytes file))
     ∷ (3, wrongLength file)
     ∷ (4, anyWrong (header file .points) file)
+    ∷ (17, shortIndex (header file .points) x)
     ∷ []
 
-unfoldable pub openingNumber : List ℕ → ℕ
-openingNumber file = first (openingConditions file)
+unfoldable pub openingNumber : List ℕ → List ℕ → ℕ
+openingNumber file x = first (openingConditions file x)
 
 -- the master data of a header and points, with points of zeros past them
 abbrev pub masterOf : Header → List Point → MasterData
@@ -73,5 +77,13 @@ abbrev pub freshOf : MasterData → Book
 freshOf m = record { master = m; length = 0; closed = false; totals = replicate 8 nothing }
 
 -- "A refused open .. hand[s] back the void book"
-unfoldable pub openedBook : List ℕ → Book
-openedBook file = cond (eqb (openingNumber file) 0) (freshOf (masterOf (header file) (padded (points file)))) void
+unfoldable pub openedBook : List ℕ → List ℕ → Book
+openedBook file x = cond (eqb (openingNumber file x) 0) (freshOf (masterOf (header file) (padded (points file)))) void
+
+-- 02, Ticket 6: "Opening zeroes those places"; a refused one changes no buffer
+unfoldable pub openedIndex : List ℕ → List ℕ → List ℕ
+openedIndex file x = cond (eqb (openingNumber file x) 0) (cleared (header file .points) x) x
+
+-- what is lent, after its index was lent to the opening
+abbrev pub openedLent : List ℕ → Lent → Lent
+openedLent file l = withIndex l (openedIndex file (l .index))

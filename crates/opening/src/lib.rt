@@ -1,10 +1,12 @@
-// Opening a file: the fresh book of its header and points.
+// Opening a file: the fresh book of its header and points, and an index that says nothing yet.
 use answers::Answer;
 use book::Book;
 use book::Reply;
 use header_record::Header;
 use header_record::HeaderAnswer;
 use header_record::decode_header;
+use index::clear;
+use index::places_of;
 use master_data::MasterData;
 use point_record::Point;
 use point_record::PointAnswer;
@@ -22,7 +24,7 @@ ghost use Rattle.point_record.specs.Point.{noPoint};
 ghost use Rattle.answers.specs.declared.Answer.the-variants.{Accepted};
 ghost use Rattle.answers.specs.Numbers.{numberOf};
 ghost use Rattle.book.specs.Steps.{reply};
-ghost use Rattle.opening.specs.Opening.{firstPoints, anyWrong, openingNumber, masterOf, void, freshOf, openedBook};
+ghost use Rattle.opening.specs.Opening.{firstPoints, anyWrong, openingNumber, masterOf, void, freshOf, openedBook, openedIndex};
 
 // The points of a file, and whether each keeps the rules.
 struct PointsRead {
@@ -30,10 +32,12 @@ struct PointsRead {
     points: [Point; 8],
 }
 
-// Opens a file: a book of its month and points, with no entry yet, or the void book beside a refusal.
-pub fn open(file: &[u8]) -> Reply
-    ensures { λ r. ⌜ numberOf (r .answer) ≡ openingNumber (now (file .entry)) ⌝ }
-    ensures { λ r. ⌜ r .book ≡ openedBook (now (file .entry)) ⌝ }
+// Opens a file: a book of its month and points, with no entry yet, or the void book beside a refusal. Accepted, it
+// zeroes the index's places of these points.
+pub fn open(file: &[u8], index: &mut [u16]) -> Reply
+    ensures { λ r. ⌜ numberOf (r .answer) ≡ openingNumber (now (file .entry)) (now (index .entry)) ⌝ }
+    ensures { λ r. ⌜ r .book ≡ openedBook (now (file .entry)) (now (index .entry)) ⌝ }
+    ensures { λ _. ⌜ now (index .exit) ≡ openedIndex (now (file .entry)) (now (index .entry)) ⌝ }
 {
     if file.len() < 7 {
         return refused(Answer::TooShort);
@@ -50,6 +54,10 @@ pub fn open(file: &[u8]) -> Reply
     if !read.right {
         return refused(Answer::WrongPoint);
     }
+    if index.len() < places_of(header.points) {
+        return refused(Answer::ShortIndex);
+    }
+    clear(index, header.points);
     let points = read.points;
     fresh(header, points)
 }

@@ -1,8 +1,12 @@
 -- `opening::open` meets its contract. Assumes nothing.
+use mathlib.Core.Path.{_≡_}
+use mathlib.Core.Bool.{false}
 use native.Mathlib.Omega.{arith}
 use borrow.Author.Needs.{needs}
 use Rattle.header_record.proofs.Laws.{header-decoded}
-use Rattle.opening.proofs.InOrder.{too-short, header-bytes, wrong-header, few-points, wrong-length, wrong-point, accepts}
+use Rattle.index.specs.Index.{shortIndex}
+use Rattle.index.proofs.Comparing.{is-short, not-short}
+use Rattle.opening.proofs.InOrder.{too-short, header-bytes, wrong-header, few-points, wrong-length, wrong-point, short-index, accepts}
 use Rattle.opening.proofs.open.Statement.{statement}
 use Rattle.opening.proofs.open.Tie as tie
 
@@ -10,10 +14,12 @@ refused-requires : tie.Need-refused-requires
 refused-requires c κs = search needs
 
 returns : tie.Need-returns
-returns c = too-short _ (c .before .if1 .taken) (c .refused .result) (c .refused .ensures)
+returns c = too-short _ _ (c .before .if1 .taken) (c .refused .result) (c .refused .ensures)
 
 slice-aggregate-decode-header : tie.Need-slice-aggregate-decode-header
-slice-aggregate-decode-header c = header-bytes (c .before .before .before .args .file .now) (omega arith)
+slice-aggregate-decode-header c =
+    let s = c .before .before .before .before in
+    header-bytes (s .args .file .now) (s .args .index .now) (omega arith)
 
 decode-header-requires : tie.Need-decode-header-requires
 decode-header-requires c κs = search needs
@@ -29,7 +35,7 @@ refused-requires-2 c κs = search needs
 
 returns-2 : tie.Need-returns-2
 returns-2 c =
-    wrong-header _ (omega arith) _ (header-decoded _ _ (c .before .before .before .decode-header .ensures)) (c .before .enum-told .given .1)
+    wrong-header _ _ (omega arith) _ (header-decoded _ _ (c .before .before .before .decode-header .ensures)) (c .before .enum-told .given .1)
     (c .refused2 .result) (c .refused2 .ensures)
 
 cast-count : tie.Need-cast-count
@@ -56,14 +62,16 @@ refused-requires-3 c κs = search needs
 returns-3 : tie.Need-returns-3
 returns-3 c =
     let h = c .before .before .before .before .before in
-    wrong-length _ (omega arith) _ (header-decoded _ _ (h .before .before .decode-header .ensures)) _ (h .header .given .1) (c .before .if2 .taken)
+    wrong-length _ _ (omega arith) _ (header-decoded _ _ (h .before .before .decode-header .ensures)) _ (h .header .given .1) (c .before .if2 .taken)
     (c .refused3 .result) (c .refused3 .ensures)
 
 read-points-requires : tie.Need-read-points-requires
 read-points-requires c κs =
     let h = c .before .before .before .before in
-    let file = h .before .before .before .before .before .before .args .file .now in
-    (omega (arith, c .if2 .left), few-points file (omega arith) _ (header-decoded _ _ (h .before .before .decode-header .ensures)) _ (h .header .given .1))
+    let a = h .before .before .before .before .before .before .before .args in (
+      omega (arith, c .if2 .left),
+      few-points (a .file .now) (a .index .now) (omega arith) _ (header-decoded _ _ (h .before .before .decode-header .ensures)) _ (h .header .given .1),
+    )
 
 refused-requires-4 : tie.Need-refused-requires-4
 refused-requires-4 c κs = search needs
@@ -72,18 +80,50 @@ returns-4 : tie.Need-returns-4
 returns-4 c =
     let p = c .before .before .before in
     let h = p .before .before .before .before .before in
-    wrong-point _ (omega arith) _ (header-decoded _ _ (h .before .before .decode-header .ensures)) _ (h .header .given .1)
+    wrong-point _ _ (omega arith) _ (header-decoded _ _ (h .before .before .decode-header .ensures)) _ (h .header .given .1)
     (p .before .if2 .left) _ _ (p .read-points .ensures) (c .before .if3 .taken) (c .refused4 .result) (c .refused4 .ensures)
+
+places-of-requires : tie.Need-places-of-requires
+places-of-requires c κs = search needs
+
+refused-requires-5 : tie.Need-refused-requires-5
+refused-requires-5 c κs = search needs
+
+returns-5 : tie.Need-returns-5
+returns-5 c =
+    let q = c .before in
+    let right = q .before .before in
+    let p = right .before .before in
+    let h = p .before .before .before .before .before in
+    short-index _ _ (omega arith) _ (header-decoded _ _ (h .before .before .decode-header .ensures)) _ (h .header .given .1)
+    (p .before .if2 .left) _ _ (p .read-points .ensures) (right .if3 .left)
+    (is-short _ _ (omega (arith, q .before .places-of .ensures, q .if4 .taken))) (c .refused5 .result) (c .refused5 .ensures)
+
+-- the index was tested, and is long enough
+enough : (c : tie.Else4)
+    → let h = c .before .before .before .before .before .before .before .before .before in
+    let s = h .before .before .before .before .before .before .before in
+    shortIndex (h .header .given .0 .0 .points) (s .args .index .now) ≡ false
+enough c = not-short _ _ (omega (arith, c .before .places-of .ensures, c .if4 .left))
+
+clear-requires : tie.Need-clear-requires
+clear-requires c κs = enough (c .before)
 
 fresh-requires : tie.Need-fresh-requires
 fresh-requires c κs = search needs
 
-returns-5 : tie.Need-returns-5
-returns-5 c =
-    let p = c .before .before .before .before in
+same-length : tie.Need-same-length
+same-length c = search needs
+
+returns-6 : tie.Need-returns-6
+returns-6 c =
+    let cleared = c .before .before .before .before in
+    let long = cleared .before .before in
+    let right = long .before .before in
+    let p = right .before .before in
     let h = p .before .before .before .before .before in
-    accepts _ (omega arith) _ (header-decoded _ _ (h .before .before .decode-header .ensures)) _ (h .header .given .1)
-    (p .before .if2 .left) _ _ (p .read-points .ensures) (c .before .before .if3 .left) (c .fresh .result) (c .fresh .ensures)
+    accepts _ _ (omega arith) _ (header-decoded _ _ (h .before .before .decode-header .ensures)) _ (h .header .given .1)
+    (p .before .if2 .left) _ _ (p .read-points .ensures) (right .if3 .left) (enough long) (c .fresh .result) (c .fresh .ensures) _ (cleared .clear .ensures)
 
 pub open-spec : {M : Type 1} → statement M
 open-spec =
@@ -108,5 +148,10 @@ open-spec =
     read-points-requires
     refused-requires-4
     returns-4
+    places-of-requires
+    refused-requires-5
+    returns-5
+    clear-requires
     fresh-requires
-    returns-5)
+    same-length
+    returns-6)
