@@ -1,4 +1,4 @@
--- Demand 3, for every file that open accepts, whatever is lent and every list of calls.
+-- Demand 3, for every file that open accepts, whatever is lent and every list of calls; and what the index says after each call.
 -- Assumes nothing.
 use Prim.Native.Nat.{ℕ, _≤_, _<_}
 use mathlib.Core.Path.{_≡_, refl, sym, ap, ap₂, _∙_, subst}
@@ -19,8 +19,9 @@ use Rattle.master_data.proofs.Ranged.{points-most}
 use Rattle.book.specs.declared.Book.{Book}
 use Rattle.book.specs.Library as library
 use Rattle.book.specs.Library.{Lent, after}
-use Rattle.opening.specs.Opening.{openingNumber, openedBook}
-use Rattle.demand.specs.Demand.{beside, standingEnergy, Conserved, Demand3}
+use Rattle.book.proofs.Numbers.{guarded}
+use Rattle.opening.specs.Opening.{openingNumber}
+use Rattle.demand.specs.Demand.{beside, standingEnergy, Conserved, Demand3, IndexSays}
 use Rattle.demand.proofs.OneCall.{Stands, stays, answers-alike}
 use Rattle.demand.proofs.FreshBook.{opened}
 
@@ -47,28 +48,35 @@ unfolding library.run machine.run
 same-end r [] = r
 same-end r (c ∷ cs) = same-end (moved r c) cs
 
--- The machine "passes over 7, which no call of such a list gets".
+-- The machine "passes over 7, which no call of such a list gets", and over 17.
 
--- 7 is none of a call's own numbers
-unlisted : (s : State) (c : Change) → listed 7 (conditions s c) ≡ false
-unlisted s (deliver bytes) = refl
-unlisted s takeBack = refl
-unlisted s close = refl
+-- they are none of a call's own numbers
+unlisted-7 : (s : State) (c : Change) → listed 7 (conditions s c) ≡ false
+unlisted-7 s (deliver bytes) = refl
+unlisted-7 s takeBack = refl
+unlisted-7 s close = refl
 
--- no call gets it from the machine
-machine-never-7 : (s : State) (c : Call) → machine.answer s c .number ≡ 7 → ⊥
-machine-never-7 s (change c) h =
-    false≢true (sym (unlisted s c) ∙ sym (ap (λ (n : ℕ). listed n (conditions s c)) h) ∙ given-listed (conditions s c))
-machine-never-7 s totals h = omega arith
+unlisted-17 : (s : State) (c : Change) → listed 17 (conditions s c) ≡ false
+unlisted-17 s (deliver bytes) = refl
+unlisted-17 s takeBack = refl
+unlisted-17 s close = refl
 
--- nor does a call of a list
-none-7 : (s : State) (cs : List Call) (a : Answer) → List·Mem a (machine.answers s cs) → a .number ≡ 7 → ⊥
-unfolding machine.answers
-none-7 s [] a m h = not-mem-nil m
-none-7 s (c ∷ cs) a m h =
-    Or·elim ⊥-prop (eq-or-mem-of-mem-cons m)
-    (λ e. machine-never-7 s c (ap (λ (x : Answer). x .number) (sym e) ∙ h))
-    (λ n. none-7 (next s c) cs a n h)
+-- A number above 0 that is none of them.
+module _ (n : ℕ) (refusal : 0 < n) (unlisted : (s : State) (c : Change) → listed n (conditions s c) ≡ false) where
+  -- no call gets it from the machine
+  machine-never : (s : State) (c : Call) → machine.answer s c .number ≡ n → ⊥
+  machine-never s (change c) h =
+      false≢true (sym (unlisted s c) ∙ sym (ap (λ (k : ℕ). listed k (conditions s c)) h) ∙ given-listed (conditions s c))
+  machine-never s totals h = omega arith
+
+  -- nor does a call of a list
+  none-gets : (s : State) (cs : List Call) (a : Answer) → List·Mem a (machine.answers s cs) → a .number ≡ n → ⊥
+  unfolding machine.answers
+  none-gets s [] a m h = not-mem-nil m
+  none-gets s (c ∷ cs) a m h =
+      Or·elim ⊥-prop (eq-or-mem-of-mem-cons m)
+      (λ e. machine-never s c (ap (λ (x : Answer). x .number) (sym e) ∙ h))
+      (λ k. none-gets (next s c) cs a k h)
 
 -- The totals at a point are conserved.
 
@@ -81,10 +89,14 @@ conserved-in s p inside most =
     subst (λ (f : Figures). Conserved f (standingEnergy s p)) (sym (totals-get ps p inside most l))
     (record { shares = conserved-totals ps l p; standing = total-energy ps l p })
 
+-- the index after each call on a sound book
+pub index-says : IndexSays
+index-says b l c h = stays (guarded b l h) c .sound .index
+
 -- demand 3
-pub demand-3 : (file : List ℕ) (l : Lent) (calls : List Call) → openingNumber file ≡ 0 → Demand3 file l calls
+pub demand-3 : (file : List ℕ) (l : Lent) (calls : List Call) → openingNumber file (l .index) ≡ 0 → Demand3 file l calls
 demand-3 file l calls h =
-    let r = opened file h l in
+    let r = opened file l h in
     let e = same-end r calls in
     let end = machine.run (beside file (length (l .journal))) calls in
     let same = same-answers r calls in
@@ -94,7 +106,8 @@ demand-3 file l calls h =
     record {
       answered = same;
       stored = stored;
-      never-7 = λ a m. none-7 (beside file (length (l .journal))) calls a (subst (List·Mem a) same m);
+      never-7 = λ a m. none-gets 7 (omega arith) unlisted-7 (beside file (length (l .journal))) calls a (subst (List·Mem a) same m);
+      never-17 = λ a m. none-gets 17 (omega arith) unlisted-17 (beside file (length (l .journal))) calls a (subst (List·Mem a) same m);
       conserved =
           λ p inside.
           subst (λ (ts : List Figures). Conserved (getD ts p nothing) (standingEnergy end p)) (sym stored)

@@ -28,9 +28,11 @@ use Rattle.master_data.proofs.Ranged.{inside, points-most}
 use Rattle.audit.proofs.Fitting.{passes}
 use Rattle.audit.proofs.Placed.{entries-room}
 use Rattle.audit.proofs.OnePlace.{one-in, one-out}
+use Rattle.walk.specs.Walk.{indexTo}
+use Rattle.walk.proofs.Noted.{says-again}
 use Rattle.book.specs.declared.Book.{Book}
 use Rattle.book.specs.Library as library
-use Rattle.book.specs.Library.{Lent, withJournal, withLength, withTotals, withClosed, view, posted, unposted, outcome, accepted, called, after}
+use Rattle.book.specs.Library.{Lent, lent, withLength, withTotals, withClosed, view, posted, unposted, outcome, accepted, called, after}
 use Rattle.book.proofs.Numbers.{sound-number, called-number, sound-given}
 use Rattle.book.proofs.Sound.{Sound}
 
@@ -86,14 +88,14 @@ module _ (n : ℕ) (j bytes : List ℕ) (fits : 12 * n + 12 ≤ length j) (size 
       none-next (stoppedAt f written) n (before f n n j bytes (omega arith) (omega arith) ∙ h)
       ((λ t. stopped f (entries-before n j bytes n (omega arith) (omega arith) t) (bytesAt-paste n j bytes fits size t)) ∙ w)
 
--- A sound book changes, and the first n entries of the journal are now es.
-module _ {b : Book} {l : Lent} (s : Sound b l) (n : ℕ) (es : List Entry) (c : Bool) (ts : List Figures) (k : List ℕ)
-    (size : length k ≡ length (l .journal)) (held : entries n k ≡ es) where
+-- A sound book changes, the first n entries of the journal are now es, and the index says which of them stand.
+module _ {b : Book} {l : Lent} (s : Sound b l) (n : ℕ) (es : List Entry) (c : Bool) (ts : List Figures) (k x : List ℕ)
+    (size : length k ≡ length (l .journal)) (held : entries n k ≡ es) (says : x ≡ indexTo (b .master) n k x) where
   -- it stands for the state with these entries, if L is no longer than the capacity, none of its entries is stopped and the totals
   -- are theirs
   changed-stands : n ≤ capacityOf (length (l .journal)) → anyStopped (frameOf (b .master)) n k ≡ false
       → ts ≡ totalsOf (frameOf (b .master) .points) es
-      → Stands (withClosed (withLength (withTotals b ts) n) c) (withJournal l k)
+      → Stands (withClosed (withLength (withTotals b ts) n) c) (lent k x)
       (record { frame = frameOf (b .master); capacity = capacityOf (length (l .journal)); entries = es; closed = c })
   changed-stands room none sums =
       record {
@@ -103,6 +105,7 @@ module _ {b : Book} {l : Lent} (s : Sound b l) (n : ℕ) (es : List Entry) (c : 
               short = rw size room;
               entries = none;
               totals = sums ∙ ap (totalsOf (frameOf (b .master) .points)) (sym held);
+              index = says;
             };
         state = λ i. record { frame = frameOf (b .master); capacity = capacityOf (size i); entries = held i; closed = c };
       }
@@ -124,8 +127,9 @@ module _ {b : Book} {l : Lent} (s : Sound b l) where
       let here : stopped (frameOf (b .master)) (entries n j) bytes ≡ false = rw (d .readable, d .within, d .above) in
       let sums = ap (λ (us : List Figures). restated us (e .point) (library.entryWorth b e) (library.standingWorth b l e n)) (s .totals)
       ∙ one-in ps n j e (inside (b .master) e (d .within) .point) (points-most (s .ranged)) in
-      changed-stands s (n + 1) (entries n j ++ e ∷ []) (b .closed) _ (paste j (12 * n) bytes 12)
-      (length-paste j (12 * n) bytes 12 fits (omega arith)) (appended n j bytes fits size) (omega arith)
+      changed-stands s (n + 1) (entries n j ++ e ∷ []) (b .closed) _ (paste j (12 * n) bytes 12) _
+      (length-paste j (12 * n) bytes 12 fits (omega arith)) (appended n j bytes fits size)
+      (says-again (b .master) (n + 1) (paste j (12 * n) bytes 12) (l .index)) (omega arith)
       (none-stopped n j bytes fits size (frameOf (b .master)) (s .entries) here) sums
 
   -- take back: the others are left
@@ -152,14 +156,16 @@ module _ {b : Book} {l : Lent} (s : Sound b l) where
       let sums = ap (λ (us : List Figures). restated us (e .point) (library.standingWorth b l e m) (library.entryWorth b e)) stored
       ∙ one-out (f .points) m j (inside (b .master) e (p .within) .point) (points-most (s .ranged))
       ∙ ap (totalsOf (f .points)) left in
-      changed-stands s m (take (length (entries n j) - 1) (entries n j)) (b .closed) _ (paste j (12 * m) zeros 12)
-      (length-paste j (12 * m) zeros 12 fits (omega arith)) (held ∙ left) (omega arith)
+      changed-stands s m (take (length (entries n j) - 1) (entries n j)) (b .closed) _ (paste j (12 * m) zeros 12) _
+      (length-paste j (12 * m) zeros 12 fits (omega arith)) (held ∙ left)
+      (says-again (b .master) m (paste j (12 * m) zeros 12) (l .index)) (omega arith)
       (before f m m j zeros (omega arith) (omega arith) ∙ rest .0) sums
 
-  -- close: L stays, and with it the totals
+  -- close: L stays, and with it the totals and the index
   closed : Stands (accepted b l close .book) (accepted b l close .lent) (step (view b l) close)
   closed =
-      changed-stands s (b .length) (entries (b .length) (l .journal)) true (b .totals) (l .journal) refl refl (s .short) (s .entries) (s .totals)
+      changed-stands s (b .length) (entries (b .length) (l .journal)) true (b .totals) (l .journal) (l .index) refl refl (s .index) (s .short)
+      (s .entries) (s .totals)
 
   -- any accepted call
   acted : (c : Change) → first (conditions (view b l) c) ≡ 0
