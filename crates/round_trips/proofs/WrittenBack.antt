@@ -15,18 +15,20 @@ use Rattle.entry_record.specs.declared.Entry.{Entry}
 use Rattle.machine.specs.Machine.{Frame, State, deliver, withEntries, fresh, capacityOf, full, conditions, totalsIn}
 use Rattle.journal.specs.Journal.{bytesAt, entries}
 use Rattle.journal.proofs.Entries.{length-entries, bytesAt-take, entries-take}
+use Rattle.index.specs.Index.{placesOf}
+use Rattle.index.proofs.Comparing.{not-short}
 use Rattle.master_data.specs.Master.{frameOf}
 use Rattle.audit.proofs.Fitting.{Passes, passes-at}
 use Rattle.book.specs.declared.Book.{Book}
-use Rattle.book.specs.Library.{Lent, view, guards, number}
-use Rattle.book.proofs.Numbers.{sound-number}
-use Rattle.book.proofs.Sound.{Sound, sound}
+use Rattle.book.specs.Library.{Lent, view, number}
+use Rattle.book.proofs.Numbers.{guarded, sound-number}
+use Rattle.book.proofs.Sound.{Sound}
 use Rattle.opening.specs.Opening.{header, points, openingNumber}
-use Rattle.opening.proofs.Accepted.{accepted}
+use Rattle.opening.proofs.Accepted.{Openable, accepted}
 use Rattle.posting.specs.Posting.{entriesOf, entryBytes, posting}
 use Rattle.round_trips.specs.RoundTrip.{Same, WrittenBack, WrittenPostsBack}
 use Rattle.writing.specs.Writing.{headerOf, fileOf, fileLength}
-use Rattle.writing.proofs.FileWritten.{Writable, writable, points-counted, entries-held, file-sized, written}
+use Rattle.writing.proofs.FileWritten.{Writable, sound-writable, points-counted, entries-held, file-sized, written}
 use Rattle.round_trips.proofs.InFull.{after, Holds, in-full, number-zero}
 use Rattle.round_trips.proofs.Parts.{rest, entry-bytes}
 use Rattle.round_trips.proofs.WrittenFiles.{header-is, points-are, rest-is, written-opens}
@@ -51,7 +53,7 @@ held-capacity n size h k = omega arith
 -- The file of a sound book with places for eight points.
 module _ (b : Book) (l : Lent) (eight : length (b .master .points) ≡ 8) (s : Sound b l) where
   abbrev file : List ℕ
-  file = fileOf b l
+  file = fileOf b (l .journal)
 
   abbrev ps : List Point
   ps = frameOf (b .master) .points
@@ -59,16 +61,16 @@ module _ (b : Book) (l : Lent) (eight : length (b .master .points) ≡ 8) (s : S
   abbrev tail : List ℕ
   tail = take (12 * b .length) (l .journal)
 
-  w : Writable b l
-  w = writable s
+  w : Writable b (l .journal)
+  w = sound-writable s
 
   count : length ps ≡ b .master .count
   count = points-counted w eight
 
-  -- it is opened
-  file-opened : openingNumber file ≡ 0
+  -- it can be opened
+  file-openable : Openable file
   unfolding fileOf
-  file-opened = accepted file (written-opens (headerOf b) ps tail (w .header) (w .points) count (entries-held w))
+  file-openable = written-opens (headerOf b) ps tail (w .header) (w .points) count (entries-held w)
 
   -- with the header of the book
   file-header : header file ≡ headerOf b
@@ -91,8 +93,8 @@ module _ (b : Book) (l : Lent) (eight : length (b .master .points) ≡ 8) (s : S
   file-entries : (i : ℕ) → i ≤ b .length → entries i (rest file) ≡ entries i (l .journal)
   file-entries i h = ap (entries i) file-rest ∙ entries-take i (b .length) (l .journal) h
 
-  -- The journal of k, which it is posted into, holds L.
-  module _ (k : Lent) (holds : 12 * b .length ≤ length (k .journal)) where
+  -- The journal of k, which it is posted into, holds L, and the index of k has the places.
+  module _ (k : Lent) (holds : 12 * b .length ≤ length (k .journal)) (long : placesOf (b .master .count) ≤ length (k .index)) where
     abbrev capacity : ℕ
     capacity = capacityOf (length (k .journal))
 
@@ -112,6 +114,12 @@ module _ (b : Book) (l : Lent) (eight : length (b .master .points) ≡ 8) (s : S
         ∙ accepts-entry (frameOf (b .master)) capacity (entries i (l .journal)) (bytesAt i (l .journal))
         (passes-at (frameOf (b .master)) (b .length) i (l .journal) (s .entries) below)
         (omega (arith, length-entries i (l .journal)))
+
+    -- it is opened
+    file-opened : openingNumber file (k .index) ≡ 0
+    file-opened =
+        accepted file (k .index) file-openable
+        (not-short (header file .points) (k .index) (omega (arith, ap (λ (x : Header). x .points) file-header)))
 
     -- so all are posted
     all-posted : posting file k .number ≡ 0
@@ -136,14 +144,14 @@ module _ (b : Book) (l : Lent) (eight : length (b .master .points) ≡ 8) (s : S
 
 -- write accepts, and posting what it wrote gives "an open book with the same month, points, L and totals"
 pub written-posts-back : WrittenPostsBack
-written-posts-back b l k out eight u room holds =
-    let s = sound b l u in
-    let size = file-sized (writable s) eight in
-    subst (WrittenBack b l k) (written b l out (all-passed (guards b l) (u, tt)) room _ refl)
+written-posts-back b l k out eight none room holds long =
+    let s = guarded b l none in
+    let size = file-sized (sound-writable s) eight in
+    subst (WrittenBack b l k) (written b l out none room _ refl)
     (record {
       accepted = refl;
       sized = sym size;
       back =
-          subst (λ (f : List ℕ). Same (posting f k) b l) (sym (take-at (fileOf b l) (drop (fileLength b) out) (fileLength b) size))
-          (posts-back b l eight s k holds);
+          subst (λ (f : List ℕ). Same (posting f k) b l) (sym (take-at (fileOf b (l .journal)) (drop (fileLength b) out) (fileLength b) size))
+          (posts-back b l eight s k holds long);
     })

@@ -5,10 +5,12 @@ use mathlib.Core.Bool.{false}
 use mathlib.Core.List.{List, _++_}
 use lib.ListN.{length, take, drop}
 use Rattle.bits.specs.Fields.{AreBytes}
+use Rattle.refusals.specs.Refusals.{first}
 use Rattle.journal.specs.Journal.{entries}
+use Rattle.index.specs.Index.{placesOf}
 use Rattle.master_data.specs.Master.{frameOf}
 use Rattle.book.specs.declared.Book.{Book}
-use Rattle.book.specs.Library.{Lent, unsound}
+use Rattle.book.specs.Library.{Lent, guards}
 use Rattle.opening.specs.Opening.{void}
 use Rattle.posting.specs.Posting.{PostResult, posting}
 use Rattle.writing.specs.Writing.{fileOf, fileLength, WriteResult, writeResult, writing}
@@ -25,14 +27,15 @@ pub record Same (r : PostResult) (b : Book) (l : Lent) : Type 0 where
 -- "Posting that file into a journal that holds L", here k's, "gives an open book with the same month, points, L and totals"
 pub record WrittenBack (b : Book) (l k : Lent) (w : WriteResult) : Type 0 where
   pub accepted : w .number ≡ 0
-  pub sized : w .length ≡ length (fileOf b l)
+  pub sized : w .length ≡ length (fileOf b (l .journal))
   pub back : Same (posting (take (w .length) (w .output)) k) b l
 
--- for every sound book, which has places for eight points, every output that is long enough, and every such journal
+-- for every sound book, which has places for eight points, every output that is long enough, every such journal, and "no other lent
+-- slice too short": the index that write is lent (17), and that which posting is
 abbrev pub WrittenPostsBack : Type 0
 WrittenPostsBack =
-    (b : Book) (l k : Lent) (out : List ℕ) → length (b .master .points) ≡ 8 → unsound b l ≡ false → fileLength b ≤ length out
-    → 12 * b .length ≤ length (k .journal) → WrittenBack b l k (writing b l out)
+    (b : Book) (l k : Lent) (out : List ℕ) → length (b .master .points) ≡ 8 → first (guards b l) ≡ 0 → fileLength b ≤ length out
+    → 12 * b .length ≤ length (k .journal) → placesOf (b .master .count) ≤ length (k .index) → WrittenBack b l k (writing b l out)
 
 -- "Writing the book of a file posted in full gives that file's bytes": write accepts, and puts them into the output; "output bytes
 -- past the file are untouched"

@@ -1,10 +1,10 @@
 -- A sound book written as a file: header, points and entries fill one part of the output each. Assumes nothing.
 use Prim.Native.Nat.{ℕ, _+_, _-_, _*_, _<_, _≤_}
 use mathlib.Core.Path.{_≡_, refl, sym, ap, _∙_}
-use mathlib.Core.Bool.{Bool, true, cond}
+use mathlib.Core.Bool.{Bool, true, false, cond}
 use mathlib.Core.List.{List, [], _∷_, _++_, append-nil}
 use native.Mathlib.Omega.{arith}
-use borrow.Author.Tests.{le-leb, lt-ltb, le-ltb, not-false}
+use borrow.Author.Tests.{le-leb, lt-ltb, le-ltb, ltb-false, not-false}
 use lib.Dec.{ltb}
 use lib.ListN.{length, take, drop, length-append, drop-of-length-le}
 use lib.Seq.{take-all, length-take-le}
@@ -19,6 +19,7 @@ use Rattle.answers.specs.declared.Answer.{Answer}
 use Rattle.answers.specs.Numbers.{numberOf}
 use Rattle.master_data.specs.Master.{frameOf, monthOf, wrongMonth, wrongPoint}
 use Rattle.master_data.proofs.Ranged.{count-most}
+use Rattle.audit.specs.Audit.{tooLong}
 use Rattle.audit.proofs.Placed.{entries-room}
 use Rattle.book.specs.declared.Book.{Book}
 use Rattle.book.specs.Library.{Lent, guards}
@@ -28,48 +29,59 @@ use Rattle.writing.specs.Writing.{headerOf, writtenHeader, writtenPoints
 use Rattle.writing.proofs.Filled.{returned, length-part, part-filled, length-filled}
 use Rattle.writing.proofs.PointsWritten.{length-points}
 
--- What a sound book has for its file.
-pub record Writable (b : Book) (l : Lent) : Type 0 where
+-- What a sound book has for its file, with the journal's bytes.
+pub record Writable (b : Book) (j : List ℕ) : Type 0 where
   pub header : headerInRange (headerOf b) ≡ true
   pub points : allOf pointInRange (frameOf (b .master) .points) ≡ true
   pub count-most : b .master .count ≤ 8
   pub length-most : b .length ≤ 65535
-  pub held : 12 * b .length ≤ length (l .journal)
+  pub held : 12 * b .length ≤ length j
 
 -- no journal holds more entries than a header can say
 capacity-most : (size : ℕ) → capacityOf size ≤ 65535
 unfolding capacityOf
 capacity-most size = omega arith
 
-pub writable : {b : Book} {l : Lent} → Sound b l → Writable b l
-unfolding wrongMonth wrongPoint headerInRange
-writable {b} {l} s =
-    let most : b .length ≤ 65535 = omega (arith, s .short, capacity-most (length (l .journal))) in
-    let month : headerInRange (monthOf (b .master)) ≡ true = not-false _ (s .ranged .month) in
+pub writable : {b : Book} {j : List ℕ} → wrongMonth (b .master) ≡ false → wrongPoint (b .master) ≡ false → tooLong (b .length) j ≡ false
+    → Writable b j
+unfolding wrongMonth wrongPoint headerInRange tooLong
+writable {b} {j} right points short =
+    let room : b .length ≤ capacityOf (length j) = ltb-false _ _ short in
+    let most : b .length ≤ 65535 = omega (arith, room, capacity-most (length j)) in
+    let month : headerInRange (monthOf (b .master)) ≡ true = not-false _ right in
     record {
       header = rw (le-leb (b .length) 65535 most) month;
-      points = not-false _ (s .ranged .point);
-      count-most = count-most (b .master) (s .ranged .month);
+      points = not-false _ points;
+      count-most = count-most (b .master) right;
       length-most = most;
-      held = entries-room (b .length) (length (l .journal)) (s .short);
+      held = entries-room (b .length) (length j) room;
     }
 
+-- A sound book is not too long for its journal, and can be written.
+module _ {b : Book} {l : Lent} (s : Sound b l) where
+  pub is-short : tooLong (b .length) (l .journal) ≡ false
+  unfolding tooLong
+  is-short = le-ltb (capacityOf (length (l .journal))) (b .length) (s .short)
+
+  pub sound-writable : Writable b (l .journal)
+  sound-writable = writable (s .ranged .month) (s .ranged .point) is-short
+
 -- it has as many points as it counts, if it has places for eight
-pub points-counted : {b : Book} {l : Lent} → Writable b l → length (b .master .points) ≡ 8
+pub points-counted : {b : Book} {j : List ℕ} → Writable b j → length (b .master .points) ≡ 8
     → length (frameOf (b .master) .points) ≡ b .master .count
 points-counted {b} w eight = length-take-le (b .master .count) (b .master .points) (omega (arith, w .count-most))
 
 -- and its file the bytes of as many entries
-pub entries-held : {b : Book} {l : Lent} → Writable b l → length (take (12 * b .length) (l .journal)) ≡ 12 * b .length
-entries-held {b} {l} w = length-take-le (12 * b .length) (l .journal) (w .held)
+pub entries-held : {b : Book} {j : List ℕ} → Writable b j → length (take (12 * b .length) j) ≡ 12 * b .length
+entries-held {b} {j} w = length-take-le (12 * b .length) j (w .held)
 
 -- the file has its length
-pub file-sized : {b : Book} {l : Lent} → Writable b l → length (b .master .points) ≡ 8 → length (fileOf b l) ≡ fileLength b
+pub file-sized : {b : Book} {j : List ℕ} → Writable b j → length (b .master .points) ≡ 8 → length (fileOf b j) ≡ fileLength b
 unfolding fileOf fileLength writtenHeader
-file-sized {b} {l} w eight =
+file-sized {b} {j} w eight =
     let ps = frameOf (b .master) .points in
     let front = writtenHeader (headerOf b) ++ writtenPoints ps in
-    length-append front (take (12 * b .length) (l .journal))
+    length-append front (take (12 * b .length) j)
     ∙ omega (
       arith,
       length-append (writtenHeader (headerOf b)) (writtenPoints ps),
@@ -86,7 +98,7 @@ copied-all s part ys n a b e =
     e ∙ ap (λ (l : List ℕ). take (length s) s ++ l) none ∙ append-nil (take (length s) s) ∙ take-all (length s) s (omega arith)
 
 -- The three parts, on an output that has room for the file.
-module _ {b : Book} {l : Lent} (w : Writable b l) (out : List ℕ) (room : fileLength b ≤ length out)
+module _ {b : Book} {j : List ℕ} (w : Writable b j) (out : List ℕ) (room : fileLength b ≤ length out)
     (t : Bool) (hs : List ℕ) (encoded : _≡_ {A = Bool × List ℕ} (t, hs) (encodedHeader (headerOf b) (take 7 out))) where
   -- where the entries begin, and where the file ends
   abbrev begin : ℕ
@@ -158,9 +170,9 @@ module _ {b : Book} {l : Lent} (w : Writable b l) (out : List ℕ) (room : fileL
 
     -- and with the entries copied into it the output is the file
     pub file-written : (es : List ℕ)
-        → let s = take (12 * b .length) (l .journal) in
+        → let s = take (12 * b .length) j in
         es ≡ take (length s) s ++ drop (length s) (take (end - begin) (drop begin pointed))
-        → returned pointed begin end es ≡ fileOf b l ++ drop (fileLength b) out
+        → returned pointed begin end es ≡ fileOf b j ++ drop (fileLength b) out
     unfolding fileOf fileLength
     file-written es entries =
         part-filled out pointed front begin points-written length-front end es (omega arith)
@@ -190,7 +202,7 @@ module _ (b : Book) (l : Lent) (out : List ℕ) where
     thirteen k = rw (own-number, lt-ltb (length out) (fileLength b) k)
 
     -- elsewhere the file is written
-    pub written : fileLength b ≤ length out → (after : List ℕ) → after ≡ fileOf b l ++ drop (fileLength b) out
+    pub written : fileLength b ≤ length out → (after : List ℕ) → after ≡ fileOf b (l .journal) ++ drop (fileLength b) out
         → writeResult 0 (fileLength b) after ≡ writing b l out
     unfolding writing
     written k after e = rw (own-number, le-ltb (length out) (fileLength b) k, e)

@@ -29,14 +29,14 @@ unfoldable pub writtenPoints : List Point → List ℕ
 writtenPoints [] = []
 writtenPoints (p ∷ ps) = encodedPoint p (replicate 21 0) .1 ++ writtenPoints ps
 
--- the file: "header .., points and L"
-unfoldable pub fileOf : Book → Lent → List ℕ
-fileOf b l = writtenHeader (headerOf b) ++ writtenPoints (frameOf (b .master) .points) ++ take (12 * b .length) (l .journal)
+-- the file: "header .., points and L", whose bytes lie in the journal j
+unfoldable pub fileOf : Book → List ℕ → List ℕ
+fileOf b j = writtenHeader (headerOf b) ++ writtenPoints (frameOf (b .master) .points) ++ take (12 * b .length) j
 
 unfoldable pub fileLength : Book → ℕ
 fileLength b = 7 + 21 * b .master .count + 12 * b .length
 
--- "Write: 7, 13."; 13: "Output shorter than the file to be written"
+-- "Write: 7, 13.", and 17 before them; 13: "Output shorter than the file to be written"
 unfoldable pub writeNumber : Book → Lent → List ℕ → ℕ
 writeNumber b l out = first (guards b l ++ (13, ltb (length out) (fileLength b)) ∷ [])
 
@@ -60,5 +60,5 @@ refusedWith a = record { answer = a; length = 0 }
 unfoldable pub writing : Book → Lent → List ℕ → WriteResult
 writing b l out =
     cond (eqb (writeNumber b l out) 0)
-    (writeResult 0 (fileLength b) (fileOf b l ++ drop (fileLength b) out))
+    (writeResult 0 (fileLength b) (fileOf b (l .journal) ++ drop (fileLength b) out))
     (writeResult (writeNumber b l out) 0 out)

@@ -13,7 +13,9 @@ ghost use Prim.Native.Nat.{_*_, _≤_};
 ghost use lib.ListN.{length, take, drop};
 ghost use Rattle.lists.specs.Lists.{allOf};
 ghost use Rattle.point_record.specs.Point.{pointInRange};
-ghost use Rattle.book.specs.Library.{lent, unsound};
+ghost use Rattle.master_data.specs.Master.{wrongMonth, wrongPoint};
+ghost use Rattle.audit.specs.Audit.{tooLong};
+ghost use Rattle.book.specs.Library.{lent};
 ghost use Rattle.writing.specs.Writing.{writtenPoints, fileOf, fileLength, writeGiven, refusedWith, writing};
 
 // What writing a book gives: the answer, and the length of the file, 0 beside a refusal.
@@ -23,10 +25,10 @@ pub struct Written {
 }
 
 // Writes the book as a month file into the first bytes of the output, and gives the file's length.
-pub fn write(book: Book, journal: &[u8], output: &mut [u8]) -> Written
-    ensures { λ r. ⌜ writeGiven r (now (output .exit)) ≡ writing book (lent (now (journal .entry))) (now (output .entry)) ⌝ }
+pub fn write(book: Book, journal: &[u8], index: &[u16], output: &mut [u8]) -> Written
+    ensures { λ r. ⌜ writeGiven r (now (output .exit)) ≡ writing book (lent (now (journal .entry)) (now (index .entry))) (now (output .entry)) ⌝ }
 {
-    let verdict = judge(book, journal);
+    let verdict = judge(book, journal, index);
     let Answer::Accepted = verdict else {
         return refused(verdict);
     };
@@ -52,9 +54,11 @@ fn refused(answer: Answer) -> Written
 // Writes header, points and entries. Each has a part of the output to itself and fills it, so that no
 // byte past the file is lent.
 fn write_file(book: Book, journal: &[u8], output: &mut [u8])
-    requires { ⌜ unsound book (lent (now journal)) ≡ false ⌝ }
+    requires { ⌜ wrongMonth (book .master) ≡ false ⌝ }
+    requires { ⌜ wrongPoint (book .master) ≡ false ⌝ }
+    requires { ⌜ tooLong (book .length) (now journal) ≡ false ⌝ }
     requires { ⌜ fileLength book ≤ length (now output) ⌝ }
-    ensures { λ _. ⌜ now (output .exit) ≡ fileOf book (lent (now (journal .entry))) ++ drop (fileLength book) (now (output .entry)) ⌝ }
+    ensures { λ _. ⌜ now (output .exit) ≡ fileOf book (now (journal .entry)) ++ drop (fileLength book) (now (output .entry)) ⌝ }
 {
     let master = book.master;
     let points = master.points;

@@ -5,9 +5,8 @@ use borrow.Author.Needs.{needs}
 use Rattle.answers.specs.Numbers.{numberOf}
 use Rattle.answers.proofs.Refusing.{refused-number}
 use Rattle.book.proofs.Numbers.{guarded}
-use Rattle.book.proofs.Sound.{sound}
 use Rattle.writing.specs.Writing.{fileLength}
-use Rattle.writing.proofs.FileWritten.{writable, guard-answered, refused-with, thirteen, written}
+use Rattle.writing.proofs.FileWritten.{is-short, sound-writable, guard-answered, refused-with, thirteen, written}
 use Rattle.writing.proofs.write.Statement.{statement}
 use Rattle.writing.proofs.write.Tie as tie
 
@@ -39,14 +38,14 @@ mul-length-2 : tie.Need-mul-length-2
 mul-length-2 c =
     let told = c .before .before in
     let none = sym (told .before .before .judge .ensures) ∙ ap numberOf (told .enum-told .given .1) in
-    let w = writable (sound _ _ (guarded _ _ none)) in
+    let w = sound-writable (guarded _ _ none) in
     omega arith
 
 add-length-2 : tie.Need-add-length-2
 add-length-2 c =
     let told = c .before .before in
     let none = sym (told .before .before .judge .ensures) ∙ ap numberOf (told .enum-told .given .1) in
-    let w = writable (sound _ _ (guarded _ _ none)) in
+    let w = sound-writable (guarded _ _ none) in
     omega arith
 
 refused-requires-2 : tie.Need-refused-requires-2
@@ -64,7 +63,8 @@ unfolding fileLength
 write-file-requires c κs =
     let told = c .before .before .before .before in
     let none = sym (told .before .before .judge .ensures) ∙ ap numberOf (told .enum-told .given .1) in
-    (guarded _ _ none, omega arith)
+    let s = guarded _ _ none in
+    (s .ranged .month, (s .ranged .point, (is-short s, omega arith)))
 
 same-length : tie.Need-same-length
 same-length c = search needs

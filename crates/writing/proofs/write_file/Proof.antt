@@ -4,17 +4,20 @@ use native.Mathlib.Omega.{arith}
 use borrow.Author.Needs.{needs}
 use lib.Seq.{length-take-le}
 use Rattle.master_data.proofs.Ranged.{eight}
-use Rattle.book.proofs.Sound.{sound}
 use Rattle.writing.specs.Writing.{fileLength}
-use Rattle.writing.proofs.FileWritten.{writable, header-kept, points-part, points-kept, entries-part, entries-held, file-written}
+use Rattle.writing.proofs.FileWritten.{Writable, writable, header-kept, points-part, points-kept, entries-part, entries-held, file-written}
 use Rattle.writing.proofs.write_file.Statement.{statement}
 use Rattle.writing.proofs.write_file.Tie as tie
+
+-- the book fits a file
+fit : (s : tie.Start) → Writable (s .args .book) (s .args .journal .now)
+fit s = writable (s .pre .0) (s .pre .1 .0) (s .pre .1 .1 .0)
 
 cast-count : tie.Need-cast-count
 cast-count c = search needs
 
 cast-entries : tie.Need-cast-entries
-cast-entries c = let w = writable (sound _ _ (c .before .before .before .before .before .before .pre .0)) in omega arith
+cast-entries c = let w = fit (c .before .before .before .before .before .before) in omega arith
 
 mul-first : tie.Need-mul-first
 mul-first c = search needs
@@ -23,10 +26,10 @@ add-first : tie.Need-add-first
 add-first c = search needs
 
 mul-held : tie.Need-mul-held
-mul-held c = let w = writable (sound _ _ (c .before .before .before .before .before .before .before .pre .0)) in omega arith
+mul-held c = let w = fit (c .before .before .before .before .before .before .before) in omega arith
 
 add-end : tie.Need-add-end
-add-end c = let w = writable (sound _ _ (c .before .before .before .before .before .before .before .pre .0)) in omega arith
+add-end c = let w = fit (c .before .before .before .before .before .before .before) in omega arith
 
 slice-relend-prefix-encode-header : tie.Need-slice-relend-prefix-encode-header
 unfolding fileLength
@@ -52,18 +55,18 @@ unfolding fileLength
 part-write-points-end c =
     let header = c .before .before in
     let s = header .before .before .before .before .before .before .before .before .before in
-    let k = header-kept (writable (sound _ _ (s .pre .0))) (s .args .output .now) (s .pre .1) _ _ (header .encode-header .ensures) in
+    let k = header-kept (fit (s)) (s .args .output .now) (s .pre .1 .1 .1) _ _ (header .encode-header .ensures) in
     omega arith
 
 write-points-requires : tie.Need-write-points-requires
 write-points-requires c κs =
     let header = c .before .before .before in
     let s = header .before .before .before .before .before .before .before .before .before in
-    let w = writable (sound _ _ (s .pre .0)) in
-    (w .count-most, (w .points, points-part w (s .args .output .now) (s .pre .1) _ _ (header .encode-header .ensures)))
+    let w = fit (s) in
+    (w .count-most, (w .points, points-part w (s .args .output .now) (s .pre .1 .1 .1) _ _ (header .encode-header .ensures)))
 
 slice-aggregate-copy : tie.Need-slice-aggregate-copy
-slice-aggregate-copy c = let s = c .before .before .before .before .before .before .before .before .before .before .before .before .before .before .before .before in sym (entries-held (writable (sound _ _ (s .pre .0))))
+slice-aggregate-copy c = let s = c .before .before .before .before .before .before .before .before .before .before .before .before .before .before .before .before in sym (entries-held (fit (s)))
 
 sub-copy : tie.Need-sub-copy
 sub-copy c = search needs
@@ -79,7 +82,7 @@ part-copy-end c =
     let s = header .before .before .before .before .before .before .before .before .before in
     let size = eight (s .args .book .master .points) (s .good .0 .1 .1 .0 .1 .1 .1 .1 .1 .0 .1 .0 .1) in
     let k =
-    points-kept (writable (sound _ _ (s .pre .0))) (s .args .output .now) (s .pre .1) _ _ (header .encode-header .ensures) size _
+    points-kept (fit (s)) (s .args .output .now) (s .pre .1 .1 .1) _ _ (header .encode-header .ensures) size _
     (points .write-points .ensures) in
     omega arith
 
@@ -89,9 +92,9 @@ copy-requires c κs =
     let header = points .before .before .before .before in
     let s = header .before .before .before .before .before .before .before .before .before in
     let size = eight (s .args .book .master .points) (s .good .0 .1 .1 .0 .1 .1 .1 .1 .1 .0 .1 .0 .1) in
-    let w = writable (sound _ _ (s .pre .0)) in
+    let w = fit (s) in
     let k =
-    entries-part w (s .args .output .now) (s .pre .1) _ _ (header .encode-header .ensures) size _
+    entries-part w (s .args .output .now) (s .pre .1 .1 .1) _ _ (header .encode-header .ensures) size _
     (points .write-points .ensures) in
     omega (arith, k, entries-held w)
 
@@ -105,7 +108,7 @@ returns c =
     let header = points .before .before .before .before in
     let s = header .before .before .before .before .before .before .before .before .before in
     let size = eight (s .args .book .master .points) (s .good .0 .1 .1 .0 .1 .1 .1 .1 .1 .0 .1 .0 .1) in
-    let k = file-written (writable (sound _ _ (s .pre .0))) (s .args .output .now) (s .pre .1) _ _ (header .encode-header .ensures) size in
+    let k = file-written (fit (s)) (s .args .output .now) (s .pre .1 .1 .1) _ _ (header .encode-header .ensures) size in
     k _ (points .write-points .ensures) _ (entries .copy .ensures .1)
 
 pub write-file-spec : {M : Type 1} → statement M
