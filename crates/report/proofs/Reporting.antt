@@ -12,7 +12,7 @@ use Rattle.statement_text.specs.declared.Line.{Line}
 use Rattle.statement_text.specs.declared.Statement.{Statement}
 use Rattle.statement_lines.specs.Lines.{lineOf}
 use Rattle.statement_total.specs.Total.{totalLine}
-use Rattle.report.specs.Statement.{refusedBy, ofBook, reported, inputMost, journalSize, blankJournal, statement}
+use Rattle.report.specs.Statement.{refusedBy, ofBook, reported, inputMost, journalSize, indexSize, ownLent, statement}
 
 -- the statement, once it is known whether it is a refusal
 pub turned-down : (n : ℕ) (b : Book) (s : Statement) → (n ≡ 0 → ⊥) → s ≡ refusedBy n → s ≡ reported n b
@@ -43,6 +43,6 @@ too-much input s h e = rw (lt-ltb inputMost (length input) h) e
 
 -- what posting gives is reported
 pub shown : (input : List ℕ) (s : Statement) (n : ℕ) (x : PostResult) → length input ≤ inputMost
-    → x ≡ posting input (lent (replicate journalSize 0)) → n ≡ x .number → s ≡ reported n (x .book) → s ≡ statement input
-unfolding blankJournal statement
+    → x ≡ posting input (lent (replicate journalSize 0) (replicate indexSize 0)) → n ≡ x .number → s ≡ reported n (x .book) → s ≡ statement input
+unfolding ownLent statement
 shown input s n x h q e r = rw (le-ltb inputMost (length input) h, ← q, ← e) r

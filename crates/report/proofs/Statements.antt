@@ -9,18 +9,18 @@ use lib.ListN.{length}
 use Rattle.posting.specs.Posting.{posting}
 use Rattle.posting.proofs.Results.{chosen}
 use Rattle.statement_text.specs.declared.Statement.{Statement}
-use Rattle.report.specs.Statement.{refusedBy, ofBook, reported, inputMost, blankJournal, statement}
+use Rattle.report.specs.Statement.{refusedBy, ofBook, reported, inputMost, ownLent, statement}
 
 -- what the figures of a book and a refusal have, the statement of what was read has
-pub statement-has : (P : Statement → Type 0) (input : List ℕ) → let r = posting input blankJournal in P (ofBook (r .book))
+pub statement-has : (P : Statement → Type 0) (input : List ℕ) → let r = posting input ownLent in P (ofBook (r .book))
     → P (refusedBy 12) → (length input ≤ inputMost → P (refusedBy (r .number))) → P (statement input)
 unfolding statement reported
 statement-has P input figures too-long refused = go (ltb inputMost (length input)) refl
   where
     go : (t : Bool) → ltb inputMost (length input) ≡ t
-        → let r = posting input blankJournal in P (cond t (refusedBy 12) (reported (r .number) (r .book)))
+        → let r = posting input ownLent in P (cond t (refusedBy 12) (reported (r .number) (r .book)))
     go true e = too-long
     go false e =
-        let r = posting input blankJournal in
+        let r = posting input ownLent in
         chosen P (r .number) (ofBook (r .book)) (refusedBy (r .number)) (λ z. figures)
         (λ p. refused (ltb-false inputMost (length input) e))

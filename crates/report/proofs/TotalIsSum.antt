@@ -9,7 +9,7 @@ use Rattle.statement_text.specs.declared.Line.{Line}
 use Rattle.statement_text.specs.declared.Statement.{Statement}
 use Rattle.statement_total.specs.Total.{figureOf, sum, totalLine}
 use Rattle.statement_total.proofs.Sums.{total-column, none-added}
-use Rattle.report.specs.Statement.{refusedBy, ofBook, blankJournal, statement, TotalIsSum}
+use Rattle.report.specs.Statement.{refusedBy, ofBook, ownLent, statement, TotalIsSum}
 use Rattle.report.proofs.Statements.{statement-has}
 
 -- a statement's total is that of the lines that are printed
@@ -29,7 +29,7 @@ book-summed b = refl
 -- and so is every statement's
 statement-summed : (input : List ℕ) → Summed (statement input)
 statement-summed input =
-    let r = posting input blankJournal in
+    let r = posting input ownLent in
     statement-has Summed input (book-summed (r .book)) (refused-summed 12) (λ h. refused-summed (r .number))
 
 -- column by column

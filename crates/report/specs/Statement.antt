@@ -1,4 +1,4 @@
--- Document 01, "Statement", and document 02, Tickets 1 and 4: what is printed. Assumes nothing.
+-- Document 01, "Statement", and document 02, Tickets 1, 4 and 6: what is printed. Assumes nothing.
 use Prim.Native.Nat.{ℕ}
 use mathlib.Core.Path.{_≡_}
 use mathlib.Core.Bool.{true, cond}
@@ -8,6 +8,7 @@ use lib.ListN.{length, take, replicate}
 use Rattle.lists.specs.Lists.{anyOf}
 use Rattle.calendar.specs.Calendar.{quartersOf}
 use Rattle.worth.specs.Figures.{Column}
+use Rattle.index.specs.Index.{placesOf}
 use Rattle.book.specs.declared.Book.{Book}
 use Rattle.book.specs.Library.{Lent, lent}
 use Rattle.posting.specs.Posting.{posting}
@@ -59,14 +60,19 @@ inputMost = 65536
 abbrev pub journalSize : ℕ
 journalSize = 65532
 
-unfoldable pub blankJournal : Lent
-blankJournal = lent (replicate journalSize 0)
+-- the program's own index has places for as many points as a file can have
+abbrev pub indexSize : ℕ
+indexSize = placesOf 8
+
+-- what the program lends to posting
+unfoldable pub ownLent : Lent
+ownLent = lent (replicate journalSize 0) (replicate indexSize 0)
 
 -- "The program posts standard input into a journal of 65,532 bytes."; 12: "Program only, before all others: standard input exceeds
 -- 65,536 bytes." The number and the figures that are handed to printing
 unfoldable pub statement : List ℕ → Statement
 statement input =
-    let r = posting input blankJournal in
+    let r = posting input ownLent in
     cond (ltb inputMost (length input)) (refusedBy 12) (reported (r .number) (r .book))
 
 -- 02, Ticket 1: "The total handed to printing is proved equal to the sum over the point lines' figures."
@@ -77,6 +83,10 @@ TotalIsSum =
 -- 02, Ticket 4: "Prove that the number handed to printing is never 10"
 abbrev pub NeverFull : Type 0
 NeverFull = (input : List ℕ) → statement input .number ≡ 10 → ⊥
+
+-- so is 17, of 02's Ticket 6
+abbrev pub NeverShort : Type 0
+NeverShort = (input : List ℕ) → statement input .number ≡ 17 → ⊥
 
 -- 02, Ticket 4: "Operators keep a help page for each number they may see.": these, and 0, which comes with the figures of a book
 unfoldable pub numbersSeen : List ℕ

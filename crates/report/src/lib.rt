@@ -1,6 +1,7 @@
 // What the program prints: the statement of a month file, or its refusal.
 use book::Book;
 use calendar::quarters_of_month;
+use index::MOST_PLACES;
 use posting::post;
 use statement_lines::lines_of;
 use statement_text::NO_FIGURES;
@@ -32,7 +33,8 @@ fn statement_of(input: &[u8]) -> Statement
         return refused(12);
     }
     let mut journal = [0u8; 65_532];
-    let posted = post(input, &mut journal);
+    let mut index = [0u16; MOST_PLACES];
+    let posted = post(input, &mut journal, &mut index);
     let answer = posted.answer;
     let book = posted.book;
     report(answer.number(), book)

@@ -7,7 +7,7 @@ use Rattle.report.proofs.statement_of.Statement.{statement}
 use Rattle.report.proofs.statement_of.Tie as tie
 
 refused-requires : tie.Need-refused-requires
-refused-requires c κs = tt
+refused-requires c κs = search needs
 
 returns : tie.Need-returns
 returns c = too-much _ _ (omega arith) (c .refused .ensures)
@@ -15,18 +15,21 @@ returns c = too-much _ _ (omega arith) (c .refused .ensures)
 slice-aggregate-post : tie.Need-slice-aggregate-post
 slice-aggregate-post c = search needs
 
+slice-aggregate-post-2 : tie.Need-slice-aggregate-post-2
+slice-aggregate-post-2 c = search needs
+
 post-requires : tie.Need-post-requires
-post-requires c κs = tt
+post-requires c κs = search needs
 
 number-requires : tie.Need-number-requires
-number-requires c κs = tt
+number-requires c κs = search needs
 
 report-requires : tie.Need-report-requires
-report-requires c κs = posted-addable _ _ _ _ (c .before .before .before .post .ensures) (c .number .ensures)
+report-requires c κs = posted-addable _ _ _ _ (c .before .before .before .before .post .ensures) (c .number .ensures)
 
 returns-2 : tie.Need-returns-2
 returns-2 c =
-    shown _ _ _ _ (omega arith) (c .before .before .before .before .post .ensures) (c .before .number .ensures) (c .report .ensures)
+    shown _ _ _ _ (omega arith) (c .before .before .before .before .before .post .ensures) (c .before .number .ensures) (c .report .ensures)
 
 pub statement-of-spec : {M : Type 1} → statement M
 statement-of-spec =
@@ -35,6 +38,7 @@ statement-of-spec =
     refused-requires
     returns
     slice-aggregate-post
+    slice-aggregate-post-2
     post-requires
     number-requires
     report-requires
