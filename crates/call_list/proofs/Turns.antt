@@ -49,6 +49,7 @@ pub record Turns (script : List ℕ) (b₀ : Book) (l₀ : Lent) (out₀ : List 
   pub sound : Sound b l
   pub within : at ≤ length script
   pub journal-size : length (l .journal) ≡ length (l₀ .journal)
+  pub places : length (l .index) ≡ length (l₀ .index)
   pub size : length out ≡ length out₀
   pub room : end + roomOf (callsFrom (length script - i) script at) ≡ roomOf (calls script)
   pub lent : library.run b l (callsFrom (length script - i) script at) .lent ≡ library.run b₀ l₀ (calls script) .lent
@@ -64,13 +65,14 @@ none-made script b l out s =
       sound = s;
       within = omega arith;
       journal-size = refl;
+      places = refl;
       size = refl;
       room = omega (arith, ap (λ (n : ℕ). roomOf (callsFrom n script 0)) all);
       lent = ap (λ (n : ℕ). library.run b l (callsFrom n script 0) .lent) all;
       answers = ap (λ (n : ℕ). withWords out 0 (allNumbers (library.answers b l (callsFrom n script 0)))) all;
     }
 
--- A turn, with book, journal and answers as they are before it.
+-- A turn, with book, what is lent and answers as they are before it.
 module _ (script : List ℕ) (b₀ : Book) (l₀ : Lent) (out₀ : List ℕ) (b : Book) (l : Lent) (out : List ℕ) (i at end : ℕ)
     (t : Turns script b₀ l₀ out₀ b l out i at end) where
   -- What is given at the end, where no call is left.
@@ -122,10 +124,10 @@ module _ (script : List ℕ) (b₀ : Book) (l₀ : Lent) (out₀ : List ℕ) (b 
       -- .. and after it the others are left
       pub goes-on : (taken : ℕ) (b′ : Book) (l′ : Lent) (out′ : List ℕ) → taken ≡ room call
           → b′ ≡ after b l call .book → l′ ≡ after b l call .lent → out′ ≡ withWords out end (numbers (library.answer b l call))
-          → length (l′ .journal) ≡ length (l .journal) → length out′ ≡ length out
+          → length (l′ .journal) ≡ length (l .journal) → length (l′ .index) ≡ length (l .index) → length out′ ≡ length out
           → Turns script b₀ l₀ out₀ b′ l′ out′ (i + 1) (at + size) (end + taken)
       unfolding library.run library.answers allNumbers
-      goes-on taken b′ l′ out′ et eb el eo ll lo =
+      goes-on taken b′ l′ out′ et eb el eo ll lx lo =
           let here = numbers (library.answer b l call) in
           let o = after b l call in
           let rest = allNumbers (library.answers (o .book) (o .lent) later) in
@@ -138,12 +140,14 @@ module _ (script : List ℕ) (b₀ : Book) (l₀ : Lent) (out₀ : List ℕ) (b 
           ap (λ (n : ℕ). withWords (withWords out end here) (end + n) rest) (sym width) ∙ with-more out end here rest enough
           in
           let long : length (o .lent .journal) ≡ length (l₀ .journal) = sym (ap (λ (x : Lent). length (x .journal)) el) ∙ ll ∙ t .journal-size in
+          let placed : length (o .lent .index) ≡ length (l₀ .index) = sym (ap (λ (x : Lent). length (x .index)) el) ∙ lx ∙ t .places in
           let wide : length (withWords out end here) ≡ length out₀ = sym (ap length eo) ∙ lo ∙ t .size in
           rw (eb, el, eo, et, measured)
           record {
             sound = still;
             within = whole-end script at stands;
             journal-size = long;
+            places = placed;
             size = wide;
             room = omega (arith, rooms);
             lent = ap (λ (cs : List Call). library.run b l cs .lent) (sym left) ∙ t .lent;

@@ -19,23 +19,24 @@ pub(crate) fn answer_call(
     script: &[u8],
     at: usize,
     journal: &mut [u8],
+    index: &mut [u16],
     output: &mut [u8],
     to: usize,
 ) -> Book
     requires { ⌜ 0 < sizeAt (now script) at ⌝ }
     requires { ⌜ to + room (callAt (now script) at) ≤ length (now output) ⌝ }
-    ensures { λ r. ⌜ r ≡ after book (lent (now (journal .entry))) (callAt (now (script .entry)) at) .book ⌝ }
-    ensures { λ _. ⌜ lent (now (journal .exit)) ≡ after book (lent (now (journal .entry))) (callAt (now (script .entry)) at) .lent ⌝ }
-    ensures { λ _. ⌜ now (output .exit) ≡ withWords (now (output .entry)) to (numbers (answer book (lent (now (journal .entry))) (callAt (now (script .entry)) at))) ⌝ }
+    ensures { λ r. ⌜ r ≡ after book (lent (now (journal .entry)) (now (index .entry))) (callAt (now (script .entry)) at) .book ⌝ }
+    ensures { λ _. ⌜ lent (now (journal .exit)) (now (index .exit)) ≡ after book (lent (now (journal .entry)) (now (index .entry))) (callAt (now (script .entry)) at) .lent ⌝ }
+    ensures { λ _. ⌜ now (output .exit) ≡ withWords (now (output .entry)) to (numbers (answer book (lent (now (journal .entry)) (now (index .entry))) (callAt (now (script .entry)) at))) ⌝ }
 {
     if script[at] == 3 {
-        let totals = book.totals(journal);
+        let totals = book.totals(journal, index);
         let verdict = totals.answer;
         let points = totals.points;
         put_totals(output, to, verdict.number(), totals.length, points);
         return book;
     }
-    let reply = make_change(book, script, at, journal);
+    let reply = make_change(book, script, at, journal, index);
     let verdict = reply.answer;
     let word = [verdict.number() as u64];
     put_words(output, to, &word);
@@ -43,19 +44,19 @@ pub(crate) fn answer_call(
 }
 
 // Makes the call at `at`, which is not totals.
-fn make_change(book: Book, script: &[u8], at: usize, journal: &mut [u8]) -> Reply
+fn make_change(book: Book, script: &[u8], at: usize, journal: &mut [u8], index: &mut [u16]) -> Reply
     requires { ⌜ 0 < sizeAt (now script) at ⌝ }
     requires { ⌜ byteAt (now script) at < 3 ⌝ }
-    ensures { λ r. ⌜ outcome (numberOf (r .answer)) (r .book) (lent (now (journal .exit))) ≡ after book (lent (now (journal .entry))) (callAt (now (script .entry)) at) ⌝ }
+    ensures { λ r. ⌜ outcome (numberOf (r .answer)) (r .book) (lent (now (journal .exit)) (now (index .exit))) ≡ after book (lent (now (journal .entry)) (now (index .entry))) (callAt (now (script .entry)) at) ⌝ }
 {
     let kind = script[at];
     if kind == 1 {
-        return book.take_back(journal);
+        return book.take_back(journal, index);
     }
     if kind == 2 {
-        return book.close(journal);
+        return book.close(journal, index);
     }
     let start = at + 2;
     let end = start + script[at + 1] as usize;
-    book.deliver(journal, &script[start..end])
+    book.deliver(journal, index, &script[start..end])
 }

@@ -5,18 +5,19 @@ use mathlib.Core.Bool.{Bool, true, false}
 use mathlib.Core.List.{List, _++_}
 use native.Mathlib.Numerals.{add-one}
 use native.Mathlib.Omega.{arith}
-use borrow.Author.Tests.{lt-ltb, le-ltb}
+use borrow.Author.Tests.{lt-ltb, le-ltb, eqb-true}
+use lib.Dec.{eqb}
 use lib.ListN.{length, drop, length-append, length-drop}
 use lib.Seq.{drop-at}
 use Rattle.bits.specs.Fields.{words, withWords}
 use Rattle.bits.proofs.Sequence.{length-words, with-front}
 use Rattle.worth.specs.declared.Figures.{Figures}
+use Rattle.refusals.specs.Refusals.{first}
 use Rattle.machine.specs.Machine as machine
 use Rattle.machine.specs.Machine.{totalsOf}
 use Rattle.book.specs.declared.Book.{Book}
-use Rattle.book.specs.Library.{Lent, unsound, totalsGiven}
-use Rattle.book.proofs.Numbers.{sound-given}
-use Rattle.book.proofs.Sound.{sound}
+use Rattle.book.specs.Library.{Lent, guards, totalsGiven}
+use Rattle.book.proofs.Numbers.{guarded, sound-given}
 use Rattle.posting.specs.Posting.{PostResult, posting}
 use Rattle.call_answers.specs.Answers.{columns, lengthAndFigures, numbers}
 use Rattle.reactive.specs.Measured.{totalsBytes, asked, measured}
@@ -24,12 +25,12 @@ use Rattle.reactive.specs.Measured.{totalsBytes, asked, measured}
 -- what totals gives takes 528 bytes, on every book
 given-room : (b : Book) (l : Lent) → 8 * length (numbers (totalsGiven b l)) ≡ 528
 unfolding totalsGiven totalsOf lengthAndFigures columns
-given-room b l = go (unsound b l) refl
+given-room b l = go (eqb (first (guards b l)) 0) refl
   where
-    go : (t : Bool) → unsound b l ≡ t → 8 * length (numbers (totalsGiven b l)) ≡ 528
-    go true e = rw e
-    go false e =
-        let s = sound b l e in
+    go : (t : Bool) → eqb (first (guards b l)) 0 ≡ t → 8 * length (numbers (totalsGiven b l)) ≡ 528
+    go false e = rw e
+    go true e =
+        let s = guarded b l (eqb-true (first (guards b l)) 0 e) in
         let answer : List Figures → machine.Answer = λ fs. record { number = 0; figures = fs; entries = b .length } in
         ap (λ (a : machine.Answer). 8 * length (numbers a)) (sound-given s ∙ ap answer (s .totals))
 

@@ -10,11 +10,11 @@ use Rattle.reactive.proofs.measured.ask.Statement.{statement}
 use Rattle.reactive.proofs.measured.ask.Tie as tie
 
 abbrev Inv-loop : tie.InvT-loop
-Inv-loop book journal rounds output₀ counter₀ output counter =
-    (counter ≤ rounds) × (output ≡ asked counter book (lent journal) output₀)
+Inv-loop book journal index rounds output₀ counter₀ output counter =
+    (counter ≤ rounds) × (output ≡ asked counter book (lent journal index) output₀)
 
 abbrev μ-loop : tie.MeasureT-loop
-μ-loop book journal rounds output₀ counter₀ output counter = rounds - counter
+μ-loop book journal index rounds output₀ counter₀ output counter = rounds - counter
 
 loop-holds : tie.Need-loop-holds Inv-loop μ-loop
 unfolding asked
@@ -28,7 +28,7 @@ number-requires c κs = search needs
 
 put-totals-requires : tie.Need-put-totals-requires Inv-loop μ-loop
 put-totals-requires c κs =
-    let s = c .before .before .before .before .before .before .before .before in
+    let s = c .before .before .before .before .before .before .before .before .before in
     let l = c .before .before .before .before .before .loop in
     omega (arith, s .pre, length-asked _ _ _ (s .pre) (l .counter) _ (l .inv .1))
 
@@ -40,7 +40,7 @@ loop-less c = omega arith
 
 loop-again : tie.Need-loop-again Inv-loop μ-loop
 loop-again c =
-    let s = c .before .before .before .before .before .before .before .before .before .before .before in
+    let s = c .before .before .before .before .before .before .before .before .before .before .before .before in
     let l = c .before .before .before .before .before .before .before .before .loop in
     let put = c .before .before in (
       omega arith,
@@ -50,12 +50,12 @@ loop-again c =
 same-length : tie.Need-same-length Inv-loop μ-loop
 same-length c =
     let l = c .before .loop in
-    length-asked _ _ _ (c .before .before .before .before .pre) (l .counter) _ (l .inv .1)
+    length-asked _ _ _ (c .before .before .before .before .before .pre) (l .counter) _ (l .inv .1)
 
 returns : tie.Need-returns Inv-loop μ-loop
 returns c =
     let l = c .before .loop in
-    asked-all _ _ _ (c .before .before .before .before .pre) _ _ _ (l .inv .1) (l .inv .0) (c .loop-test .left)
+    asked-all _ _ _ (c .before .before .before .before .before .pre) _ _ _ (l .inv .1) (l .inv .0) (c .loop-test .left)
 
 pub ask-spec : {M : Type 1} → statement M
 ask-spec =

@@ -24,11 +24,16 @@ same-length c = search needs
 same-length-2 : tie.Need-same-length-2
 same-length-2 c = search needs
 
+same-length-3 : tie.Need-same-length-3
+same-length-3 c = search needs
+
 returns-2 : tie.Need-returns-2
 returns-2 c =
-    let posted = c .before .before .before .before .before .before .before .before .before .post in
-    ap (λ n. (n, (lent (posted .last .1 .0), c .before .before .before .ask .last .1 .1 .1 .0))) (c .number .ensures)
-    ∙ measures _ _ _ _ (c .before .before .before .before .before .before .before .before .before .before .before .if1 .left) _ _ (posted .ensures) (c .before .before .before .ask .ensures)
+    let posted = c .before .before .before .before .before .before .before .before .before .before .before .before in
+    let r = posted .post in
+    let asked = c .before .before .before .ask in
+    ap (λ n. (n, (lent (r .last .1 .0) (r .last .1 .1 .0), asked .last .1 .1 .1 .1 .0))) (c .number .ensures)
+    ∙ measures _ _ _ _ (posted .before .before .before .if1 .left) _ _ (r .ensures) (asked .ensures)
 
 pub reactive-post-totals-spec : {M : Type 1} → statement M
 reactive-post-totals-spec =
@@ -40,4 +45,5 @@ reactive-post-totals-spec =
     number-requires
     same-length
     same-length-2
+    same-length-3
     returns-2)
