@@ -1,9 +1,10 @@
-//! Inputs of the program `replay`: a file, a journal's length, and a list of calls, refused ones
-//! among them.
+//! Inputs of the program `replay`: a file, the lengths of a journal and of an index, and a list of calls,
+//! refused ones among them.
+use crate::book::POINT_PLACES;
 use crate::month_file::{quarters, File};
 use crate::random::Random;
-use crate::replay::{ANSWERS_MOST, INPUT_MOST, JOURNAL_MOST, NUMBER_SIZE, TOTALS_SIZE};
-use crate::right_files::{example, right_entry, right_file};
+use crate::replay::{ANSWERS_MOST, INDEX_MOST, INPUT_MOST, JOURNAL_MOST, NUMBER_SIZE, TOTALS_SIZE};
+use crate::right_files::{active, entry, example, right_entry, right_file};
 use crate::trial::Case;
 
 pub const TAKE_BACK: u8 = 1;
@@ -44,22 +45,20 @@ pub fn all(seed: u64) -> Vec<Case> {
         cases.push(Case { group: "file damaged", input: damaged_file(&mut random) });
     }
     cases.extend(cut_short().into_iter().chain(limits()).map(|input| Case { group: "limits", input }));
+    cases.extend(index_lengths().into_iter().chain(order()).map(|input| Case { group: "index lengths", input }));
     cases
 }
 
 /// Every length up to that with which the calls begin.
 fn cut_short() -> Vec<Vec<u8>> {
-    let whole = start(&example().bytes(), 48);
+    let whole = start(&example().bytes(), 48, 2 * POINT_PLACES);
     (0..=whole.len()).map(|length| whole[..length].to_vec()).collect()
 }
 
 /// As much as the program takes of each thing, and one more.
 fn limits() -> Vec<Vec<u8>> {
     let file = example().bytes();
-    let with = |journal: usize, calls: Vec<u8>| [start(&file, journal), calls].concat();
-    let totals = ANSWERS_MOST / TOTALS_SIZE;
-    let closes = (ANSWERS_MOST - totals * TOTALS_SIZE) / NUMBER_SIZE;
-    let calls = |closes: usize| [vec![TOTALS; totals], vec![CLOSE; closes]].concat();
+    let with = |journal: usize, calls: Vec<u8>| [start(&file, journal, 2 * POINT_PLACES), calls].concat();
     let long = |length: usize| {
         let mut input = with(0, vec![TOTALS]);
         input.resize(length, 255);
@@ -70,10 +69,51 @@ fn limits() -> Vec<Vec<u8>> {
         with(JOURNAL_MOST + 1, vec![TOTALS]),
         with(u32::MAX as usize, vec![]),
         [&u32::MAX.to_be_bytes()[..], &file].concat(),
-        with(48, calls(closes)),
-        with(48, calls(closes + 1)),
+        with(48, calls_of(ANSWERS_MOST)),
+        with(48, calls_of(ANSWERS_MOST + NUMBER_SIZE)),
         long(INPUT_MOST),
         long(INPUT_MOST + 1),
+    ]
+}
+
+/// Totals and closes with answers of so many bytes, or of fewer than 8 less.
+fn calls_of(answers: usize) -> Vec<u8> {
+    let totals = answers / TOTALS_SIZE;
+    let closes = (answers - totals * TOTALS_SIZE) / NUMBER_SIZE;
+    [vec![TOTALS; totals], vec![CLOSE; closes]].concat()
+}
+
+/// Indexes around what the points need and what the program lends, for one point, two and eight.
+fn index_lengths() -> Vec<Vec<u8>> {
+    let mut inputs = Vec::new();
+    for count in [1, 2, 8] {
+        let file = File::new(2024, 1, vec![active(0, 300, 1_000, 500); count], Vec::new()).bytes();
+        let needed = count * POINT_PLACES;
+        let last = entry([count as i64 - 1, 2_975, 1, 1, 0, 1_000, 22_050, 22_000]).bytes();
+        let calls = [&[TOTALS, 0, 12], &last[..], &[TOTALS, 0, 12], &last, &[TAKE_BACK, TOTALS, CLOSE]].concat();
+        let most = u32::MAX as usize;
+        for index in [0, needed - 1, needed, needed + 1, INDEX_MOST, INDEX_MOST + 1, most] {
+            inputs.push([start(&file, 48, index), calls.clone()].concat());
+        }
+    }
+    inputs
+}
+
+/// Two things wrong at once: the one that is tested first shows.
+fn order() -> Vec<Vec<u8>> {
+    let right = example().bytes();
+    let mut wrong = right.clone();
+    wrong[7] ^= 0x08;
+    let (short, too_many) = (2 * POINT_PLACES - 1, calls_of(ANSWERS_MOST + NUMBER_SIZE));
+    vec![
+        start(&right, JOURNAL_MOST + 1, INDEX_MOST + 1),
+        start(&wrong, 48, INDEX_MOST + 1),
+        start(&wrong, 48, short),
+        start(&wrong, 48, 2 * POINT_PLACES),
+        start(&wrong[..96], 48, short),
+        [start(&right, 48, INDEX_MOST + 1), too_many.clone()].concat(),
+        [start(&right, 48, short), too_many.clone()].concat(),
+        [start(&wrong, 48, INDEX_MOST), too_many].concat(),
     ]
 }
 
@@ -86,8 +126,8 @@ fn list(random: &mut Random, plan: &Plan) -> Vec<u8> {
         let noise = random.bytes(bytes.len() - start);
         bytes.splice(start.., noise);
     }
-    let journal = journal(random, plan);
-    let mut input = start(&bytes, journal);
+    let (journal, index) = (journal(random, plan), index(random, file.points.len()));
+    let mut input = start(&bytes, journal, index);
     let pool = pool(random, &file, plan.calls[1]);
     for _ in 0..random.between(plan.calls[0], plan.calls[1]) {
         input.extend(call(random, plan, &file, &pool));
@@ -98,8 +138,9 @@ fn list(random: &mut Random, plan: &Plan) -> Vec<u8> {
 }
 
 /// What stands before the calls.
-pub fn start(file: &[u8], journal: usize) -> Vec<u8> {
-    [&(file.len() as u32).to_be_bytes(), file, &(journal as u32).to_be_bytes()].concat()
+pub fn start(file: &[u8], journal: usize, index: usize) -> Vec<u8> {
+    let four = |number: usize| (number as u32).to_be_bytes();
+    [&four(file.len()), file, &four(journal), &four(index)].concat()
 }
 
 fn journal(random: &mut Random, plan: &Plan) -> usize {
@@ -107,6 +148,17 @@ fn journal(random: &mut Random, plan: &Plan) -> usize {
         return random.one_of(&[JOURNAL_MOST, JOURNAL_MOST - 1, 786_420, 786_419]);
     }
     (12 * random.between(plan.capacity[0], plan.capacity[1]) + random.one_of(&[0, 0, 1, 5, 11])) as usize
+}
+
+/// As many places as the points need, or more; now and then too few.
+fn index(random: &mut Random, points: usize) -> usize {
+    let needed = points * POINT_PLACES;
+    if random.once_in(40) {
+        let any = random.index(needed);
+        return random.one_of(&[0, needed - 1, any]);
+    }
+    let more = random.between(needed as i64, INDEX_MOST as i64) as usize;
+    random.one_of(&[needed, needed, needed + 1, more, INDEX_MOST])
 }
 
 /// The keys delivered: few, so that versions meet, or as many as calls, so that the journal fills.
@@ -177,7 +229,8 @@ fn tail(random: &mut Random) -> Vec<u8> {
 }
 
 fn damaged_file(random: &mut Random) -> Vec<u8> {
-    let mut bytes = right_file(random, 6).bytes();
+    let file = right_file(random, 6);
+    let mut bytes = file.bytes();
     let at = random.index(bytes.len());
     match random.between(0, 3) {
         0 => bytes.truncate(at),
@@ -186,5 +239,5 @@ fn damaged_file(random: &mut Random) -> Vec<u8> {
         _ => bytes[at] = random.draw() as u8,
     }
     let journal = 12 * random.index(20);
-    [start(&bytes, journal), vec![TOTALS, TAKE_BACK, CLOSE, TOTALS]].concat()
+    [start(&bytes, journal, index(random, file.points.len())), vec![TOTALS, TAKE_BACK, CLOSE, TOTALS]].concat()
 }

@@ -8,6 +8,7 @@ use crate::trial::hex;
 
 const FILE_MOST: usize = 256;
 const JOURNAL_MOST: usize = 60;
+const INDEX_MOST: usize = 24_000;
 const NUMBERS_MOST: usize = 24;
 
 /// Widths of a header's fields, the two opening bytes apart.
@@ -20,15 +21,15 @@ struct Desk {
     book: Held,
     journal: Vec<u8>,
     lent: usize,
+    index: Vec<u16>,
+    places: usize,
 }
 
 /// The numbers behind a command's name.
 struct Row(Vec<u64>);
 
 pub fn text(cases: &str) -> String {
-    let zeros = Held { closed: false, ..Held::void() };
-    let mut desk =
-        Desk { file: vec![0; FILE_MOST], size: 0, book: zeros, journal: vec![0; JOURNAL_MOST], lent: JOURNAL_MOST };
+    let mut desk = Desk::of_zeros();
     let mut start = desk.clone();
     let mut lines: Vec<String> = Vec::new();
     let mut rest = Reader { text: cases };
@@ -139,6 +140,18 @@ impl Row {
 }
 
 impl Desk {
+    fn of_zeros() -> Desk {
+        Desk {
+            file: vec![0; FILE_MOST],
+            size: 0,
+            book: Held { closed: false, ..Held::void() },
+            journal: vec![0; JOURNAL_MOST],
+            lent: JOURNAL_MOST,
+            index: vec![0; INDEX_MOST],
+            places: INDEX_MOST,
+        }
+    }
+
     /// What a command prints, or nothing where it is not understood.
     fn obey(&mut self, name: &str, row: &Row) -> Option<String> {
         match name {
@@ -150,6 +163,9 @@ impl Desk {
             "lent" => self.lent = row.at(0).min(JOURNAL_MOST as u64) as usize,
             "fill" => self.journal.fill(row.at(0) as u8),
             "blank" => self.file.fill(row.at(0) as u8),
+            "places" => self.places = row.at(0).min(INDEX_MOST as u64) as usize,
+            "paint" => self.index.fill(row.at(0) as u16),
+            "place" => *self.index.get_mut(row.at(0) as usize)? = u16::try_from(row.at(1)).ok()?,
             "book" => self.forge(row),
             "record" => self.book.points[row.place()?] = row.point(),
             "figures" => self.book.totals[row.place()?] = [1, 2, 3, 4, 5, 6, 7, 8].map(|index| row.at(index)),
@@ -167,21 +183,22 @@ impl Desk {
     }
 
     fn call(&mut self, name: &str, row: &Row) -> Option<String> {
-        let lent = &mut self.journal[..self.lent];
+        let (lent, index) = (&mut self.journal[..self.lent], &mut self.index[..self.places]);
         let answer = match name {
             "open" => return Some(self.open()),
             "totals" => return Some(self.totals()),
             "post" => return Some(self.post()),
             "write" => return Some(self.write(row.at(0).min(FILE_MOST as u64) as usize)),
             "show" => return Some(groups(&self.journal)),
+            "index" => return Some(runs(&self.index)),
             "file" => return self.file.get(..row.at(0) as usize).map(groups),
-            "deliver" => ("deliver", self.book.deliver(lent, &row.record(0, &ENTRY)?)),
+            "deliver" => ("deliver", self.book.deliver(lent, index, &row.record(0, &ENTRY)?)),
             "bytes" => {
                 let bytes: Vec<u8> = row.0.iter().map(|&byte| byte as u8).collect();
-                ("deliver", self.book.deliver(lent, &bytes))
+                ("deliver", self.book.deliver(lent, index, &bytes))
             }
-            "back" => ("take-back", self.book.take_back(lent)),
-            "close" => ("close", self.book.close(lent)),
+            "back" => ("take-back", self.book.take_back(lent, index)),
+            "close" => ("close", self.book.close(lent, index)),
             _ => return None,
         };
         Some(match answer {
@@ -191,10 +208,11 @@ impl Desk {
     }
 
     fn open(&mut self) -> String {
-        let opened = open(&self.file[..self.size], self.lent);
+        let opened = open(&self.file[..self.size], self.lent, self.places);
         match opened {
             Ok(book) => {
                 self.book = Held::fresh(&book);
+                book.set_index(&mut self.index);
                 " open 0".to_string()
             }
             Err(number) => {
@@ -208,7 +226,7 @@ impl Desk {
     /// nothing is posted.
     fn post(&mut self) -> String {
         let file = &self.file[..self.size];
-        let posted = post(file, self.lent);
+        let posted = post(file, self.lent, self.places);
         let (number, index) = (posted.number, posted.index);
         let Some(book) = posted.book else {
             self.book = Held::void();
@@ -218,11 +236,12 @@ impl Desk {
         let length = ENTRY_SIZE * book.entries.len();
         self.journal[..length].copy_from_slice(&file[start..][..length]);
         self.book = Held::fresh(&book);
+        book.set_index(&mut self.index);
         format!(" post {number} {index}")
     }
 
     fn write(&mut self, room: usize) -> String {
-        match self.book.write(&self.journal[..self.lent], room) {
+        match self.book.write(&self.journal[..self.lent], &self.index[..self.places], room) {
             Ok(bytes) => {
                 self.file[..bytes.len()].copy_from_slice(&bytes);
                 format!(" write 0 {}", bytes.len())
@@ -232,7 +251,7 @@ impl Desk {
     }
 
     fn totals(&self) -> String {
-        let (number, length, places) = self.book.totals(&self.journal[..self.lent]);
+        let (number, length, places) = self.book.totals(&self.journal[..self.lent], &self.index[..self.places]);
         let mut text = format!(" totals {number} {length}");
         for (place, figures) in places.iter().enumerate().filter(|(_, figures)| figures.iter().any(|&f| f != 0)) {
             let figures: Vec<String> = figures.iter().map(i64::to_string).collect();
@@ -245,4 +264,9 @@ impl Desk {
 /// Bytes in hexadecimal, 12 to a group.
 fn groups(bytes: &[u8]) -> String {
     bytes.chunks(12).map(|group| format!(" {}", hex(group))).collect()
+}
+
+/// An index as runs of equal places, each as their value and their count.
+fn runs(index: &[u16]) -> String {
+    index.chunk_by(|one, next| one == next).map(|run| format!(" {}*{}", run[0], run.len())).collect()
 }

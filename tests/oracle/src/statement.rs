@@ -1,16 +1,19 @@
 //! The text that the program `statement` prints for its standard input, with the last line of document 02,
 //! Ticket 1.
-use crate::book::{post, Book, Figures};
+use crate::book::{post, Book, Figures, PLACES, POINT_PLACES};
 use crate::month_file::quarters;
 
 const INPUT_MOST: usize = 65_536;
 const JOURNAL: usize = 65_532;
 
+/// The program's own, so that no file gets 17.
+const INDEX: usize = POINT_PLACES * PLACES;
+
 pub fn text(input: &[u8]) -> String {
     if input.len() > INPUT_MOST {
         return "refused 12\n".to_string();
     }
-    let posted = post(input, JOURNAL);
+    let posted = post(input, JOURNAL, INDEX);
     match posted.book {
         Some(book) if posted.number == 0 => lines(&book),
         _ => format!("refused {}\n", posted.number),

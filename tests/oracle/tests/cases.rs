@@ -5,12 +5,13 @@ use std::fs::read_to_string;
 use std::path::Path;
 
 /// Every answer that a call on a book can get.
-const ANSWERS: [&str; 21] = [
+const ANSWERS: [&str; 26] = [
     "open 0",
     "open 1",
     "open 2",
     "open 3",
     "open 4",
+    "open 17",
     "deliver 0",
     "deliver 5",
     "deliver 6",
@@ -18,19 +19,23 @@ const ANSWERS: [&str; 21] = [
     "deliver 8",
     "deliver 9",
     "deliver 10",
+    "deliver 17",
     "take-back 0",
     "take-back 7",
     "take-back 8",
     "take-back 11",
+    "take-back 17",
     "close 0",
     "close 7",
     "close 8",
+    "close 17",
     "totals 0",
     "totals 7",
+    "totals 17",
 ];
 
 /// Every answer of post, with the index beside it, and of write.
-const POSTING_ANSWERS: [&str; 19] = [
+const POSTING_ANSWERS: [&str; 21] = [
     "post 0 0",
     "post 1 0",
     "post 2 0",
@@ -47,9 +52,11 @@ const POSTING_ANSWERS: [&str; 19] = [
     "post 10 0",
     "post 10 1",
     "post 10 3",
+    "post 17 0",
     "write 0 97",
     "write 7 0",
     "write 13 0",
+    "write 17 0",
 ];
 
 /// Every number of the low side, the first beside take, supply and neither.

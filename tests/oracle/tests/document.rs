@@ -3,7 +3,9 @@
 use oracle::basic_charge::{factor, SupplyPoints};
 use oracle::bits::{pack, unpack};
 use oracle::book::{open, post, Book};
+use oracle::call_lists::start;
 use oracle::fraction::{fraction, whole};
+use oracle::held::Held;
 use oracle::low_side::{self, LowSide};
 use oracle::month_file::{quarters, File, Header, HEADER};
 use oracle::quarter::{c_call, Quarter, Shares};
@@ -92,7 +94,7 @@ fn rappen_are_rounded_at_the_half() {
 #[test]
 fn total_adds_the_rounded_lines() {
     let halves = two_halves();
-    let book = post(&halves.bytes(), 24).book.expect("a right file");
+    let book = post(&halves.bytes(), 24, INDEX).book.expect("a right file");
     assert_eq!(book.totals().map(|figures| figures[6])[..2], [800_000; 2]);
     assert_eq!(rappen(800_000 + 800_000), 1);
     assert!(text(&halves.bytes()).ends_with("\ntotal 1600000 1600000 0 0 0 0 2 0\n"));
@@ -120,8 +122,8 @@ fn fullest_file_is_printed_and_one_entry_more_is_12() {
     assert_eq!(text(&one_point(5_459).bytes()), FULLEST);
     assert_eq!(text(&one_point(5_460).bytes()), "refused 12\n");
     assert_eq!(text(&one_point(5_462).bytes()), "refused 12\n");
-    assert_eq!(post(&one_point(5_461).bytes(), 65_532).number, 0);
-    assert_eq!(post(&one_point(5_462).bytes(), 65_532).number, 10);
+    assert_eq!(post(&one_point(5_461).bytes(), 65_532, INDEX).number, 0);
+    assert_eq!(post(&one_point(5_462).bytes(), 65_532, INDEX).number, 10);
 }
 
 #[test]
@@ -152,8 +154,15 @@ fn c_call_refuses_an_argument_before_a_slice() {
     assert_eq!(slice[40], 7);
 }
 
+/// An index for eight points.
+const INDEX: usize = 23_808;
+
+fn one_active_point() -> Vec<u8> {
+    File::new(2024, 2, vec![active(0, 300, 1_000, 500)], Vec::new()).bytes()
+}
+
 fn small_book(journal: usize) -> Book {
-    open(&File::new(2024, 2, vec![active(0, 300, 1_000, 500)], Vec::new()).bytes(), journal).expect("a right file")
+    open(&one_active_point(), journal, INDEX).expect("a right file")
 }
 
 fn delivery(version: i64, supply: i64) -> Vec<u8> {
@@ -209,25 +218,124 @@ fn files_are_refused_in_the_documents_order() {
 fn post_gives_the_index_of_the_entry_turned_down() {
     let mut file = example();
     file.entries[3].version = 1;
-    let posted = post(&file.bytes(), 65_532);
+    let posted = post(&file.bytes(), 65_532, INDEX);
     assert_eq!((posted.number, posted.index), (9, 3));
     assert_eq!(posted.book.map(|book| book.entries.len()), Some(3));
-    let posted = post(&example().bytes(), 47);
+    let posted = post(&example().bytes(), 47, INDEX);
     assert_eq!((posted.number, posted.index), (10, 3));
-    assert!(post(&[], 0).book.is_none());
+    assert!(post(&[], 0, INDEX).book.is_none());
+}
+
+/// A book with its journal and index, as the calls of a caller leave them.
+struct Lent {
+    book: Held,
+    journal: Vec<u8>,
+    index: Vec<u16>,
+}
+
+fn lent(file: &[u8], journal: usize, index: usize) -> Lent {
+    let book = open(file, journal, index).expect("a right file");
+    let mut places = vec![0xffff; index];
+    book.set_index(&mut places);
+    Lent { book: Held::fresh(&book), journal: vec![0; journal], index: places }
+}
+
+impl Lent {
+    fn deliver(&mut self, fields: [i64; 8]) -> u32 {
+        self.book.deliver(&mut self.journal, &mut self.index, &entry(fields).bytes())
+    }
+
+    fn back(&mut self) -> u32 {
+        self.book.take_back(&mut self.journal, &mut self.index)
+    }
+
+    fn totals(&self, index: &[u16]) -> u32 {
+        self.book.totals(&self.journal, index).0
+    }
+
+    /// The places that are not 0, and what they hold.
+    fn marks(&self) -> Vec<(usize, u16)> {
+        self.index.iter().copied().enumerate().filter(|&(_, value)| value != 0).collect()
+    }
+}
+
+#[test]
+fn index_says_which_entries_stand() {
+    // February's last quarter is 2,783; point 1 begins at place 2,976 and ends before 5,952.
+    let mut lent = lent(&example().bytes(), 60, 5_953);
+    let past = (5_952, 0xffff);
+    assert_eq!(lent.marks(), [past], "opening zeroes what the points need");
+    assert_eq!(lent.deliver([0, 2_783, 1, 1, 0, 1, 0, 0]), 0);
+    assert_eq!(lent.deliver([1, 0, 1, 1, 0, 1, 0, 0]), 0);
+    assert_eq!(lent.deliver([1, 2_783, 1, 1, 0, 1, 0, 0]), 0);
+    assert_eq!(lent.marks(), [(2_783, 1), (2_976, 2), (5_759, 3), past]);
+    assert_eq!(lent.deliver([1, 0, 2, 1, 0, 1, 0, 0]), 0);
+    assert_eq!(lent.deliver([1, 0, 2, 1, 0, 1, 0, 0]), 9);
+    assert_eq!(lent.marks(), [(2_783, 1), (2_976, 4), (5_759, 3), past]);
+    assert_eq!(lent.back(), 0);
+    assert_eq!(lent.marks(), [(2_783, 1), (2_976, 2), (5_759, 3), past], "the earlier version's");
+    assert_eq!([lent.back(), lent.back()], [0, 0]);
+    assert_eq!(lent.marks(), [(2_783, 1), past]);
+}
+
+#[test]
+fn index_is_judged_in_the_places_of_the_points() {
+    let mut lent = lent(&example().bytes(), 60, 5_953);
+    assert_eq!(lent.deliver([1, 0, 1, 1, 0, 1, 0, 0]), 0);
+    for place in [0, 2_783, 2_784, 2_975, 2_976, 5_951] {
+        let mut wrong = lent.index.clone();
+        wrong[place] = 2;
+        assert_eq!(lent.totals(&wrong), 7, "place {place}");
+    }
+    let mut past = lent.index.clone();
+    past[5_952] = 2;
+    assert_eq!(lent.totals(&past), 0, "neither needed nor read");
+    assert_eq!(lent.totals(&past[..5_952]), 0);
+    assert_eq!(lent.totals(&past[..5_951]), 17);
+    lent.book.month = 13;
+    assert_eq!(lent.totals(&past), 7);
+    assert_eq!(lent.totals(&past[..5_951]), 17, "before unsound");
+    lent.book.count = 9;
+    assert_eq!(lent.totals(&[0; 23_808]), 17, "by the stored count");
+    assert_eq!(Held::void().totals(&[], &[]).0, 7, "which needs no place");
+}
+
+#[test]
+fn opening_asks_for_the_places_of_its_points() {
+    let file = one_active_point();
+    assert_eq!(open(&file, 0, 2_975).map(|_| ()), Err(17));
+    assert!(open(&file, 0, 2_976).is_ok());
+    let mut wrong_point = file.clone();
+    wrong_point[7] = 0x08;
+    assert_eq!(open(&wrong_point, 0, 0).map(|_| ()), Err(4), "before the index");
+    let posted = post(&example().bytes(), 60, 5_951);
+    assert_eq!((posted.number, posted.index, posted.book.is_none()), (17, 0, true));
 }
 
 #[test]
 fn replay_ends_at_what_is_no_whole_call() {
-    let file = File::new(2024, 2, vec![active(0, 300, 1_000, 500)], Vec::new()).bytes();
     let entry = entry([0, 0, 1, 1, 0, 2_000, 22_050, 22_000]).bytes();
     let deliver = [&[0, 12][..], &entry].concat();
     let calls = [&deliver[..], &deliver, &[0, 1, 9, 3, 2, 1, 0, 12, 3, 3]].concat();
-    let input = [&[0, 0, 0, 28][..], &file, &[0, 0, 1, 0], &calls].concat();
+    let input = [&[0, 0, 0, 28][..], &one_active_point(), &[0, 0, 1, 0], &[0, 0, 11, 160], &calls].concat();
     let nothing: String = (1..8).map(|place| format!("{place} 0 0 0 0 0 0 0 0\n")).collect();
     let totals = format!("totals 0 1\n0 3200000 3200000 0 0 0 0 960000000 0\n{nothing}");
     let expected = format!("open 0\ndeliver 0\ndeliver 9\ndeliver 5\n{totals}close 0\ntake_back 8\n");
     assert_eq!(replay::text(&input), expected);
+}
+
+#[test]
+fn replay_tests_its_limits_in_order() {
+    let file = one_active_point();
+    let input = |journal: usize, index: usize, closes: usize| [start(&file, journal, index), vec![2; closes]].concat();
+    assert_eq!(replay::text(&input(786_433, 32_769, 200_001)), "journal too long\n");
+    assert_eq!(replay::text(&input(0, 32_769, 200_001)), "index too long\n");
+    assert_eq!(replay::text(&input(0, 2_975, 200_001)), "answers too long\n", "before the file is opened");
+    assert_eq!(replay::text(&input(0, 2_975, 200_000)), "open 17\n");
+    assert_eq!(replay::text(&input(0, 2_976, 1)), "open 0\nclose 0\n");
+    assert_eq!(replay::text(&input(0, 32_768, 0)), "open 0\n");
+    assert_eq!(replay::text(&input(0, 0, 0)[..39]), "input too short\n");
+    assert_eq!(replay::text(&input(0, 0, 0)[..40]), "open 17\n");
 }
 
 /// The number answered, take and supply.
@@ -366,7 +474,7 @@ fn points_are_turned_away_past_the_limits() {
 fn right_files_are_posted_in_full_and_their_shares_add_up() {
     for case in 0..500 {
         let file = right_file(&mut Random::of(1, case), 60);
-        let posted = post(&file.bytes(), 65_532);
+        let posted = post(&file.bytes(), 65_532, INDEX);
         assert_eq!(posted.number, 0, "case {case}");
         let book = posted.book.expect("a posted book");
         assert_eq!(book.entries, file.entries, "case {case}");

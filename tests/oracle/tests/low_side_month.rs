@@ -2,6 +2,7 @@
 mod low_side_call;
 
 use low_side_call::call;
+use oracle::book::POINT_PLACES;
 use oracle::call_lists::{start, TOTALS};
 use oracle::low_side::{HighSide, LowSide};
 use oracle::month_file::{Entry, File};
@@ -68,7 +69,7 @@ fn converted_energy_is_delivered_and_settled() {
     let entries = converted_entries();
     let points = vec![active(0, 300, 1_000, 500), semi_active(1, 300, 1_000, &[(1_200, 1_000)])];
     let opened = File::new(2024, 2, points.clone(), Vec::new()).bytes();
-    let mut calls = start(&opened, 24);
+    let mut calls = start(&opened, 24, 2 * POINT_PLACES);
     for entry in &entries {
         calls.extend([&[0, 12], &entry.bytes()[..]].concat());
     }

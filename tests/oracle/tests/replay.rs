@@ -9,12 +9,13 @@ const SEED: u64 = 20_240_202;
 const CALLS: [&str; 4] = ["deliver ", "take_back ", "close ", "totals "];
 
 /// Every answer that an input can get, 7 excepted, which no book so made gets, and each limit of the program.
-const ANSWERS: [&str; 21] = [
+const ANSWERS: [&str; 23] = [
     "open 0",
     "open 1",
     "open 2",
     "open 3",
     "open 4",
+    "open 17",
     "deliver 0",
     "deliver 5",
     "deliver 6",
@@ -30,6 +31,7 @@ const ANSWERS: [&str; 21] = [
     "input too short",
     "input too long",
     "journal too long",
+    "index too long",
     "answers too long",
 ];
 
