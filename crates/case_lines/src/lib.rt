@@ -44,6 +44,32 @@ fn wide(byte: u8) -> u64 {
     byte as u64
 }
 
+// An index as runs of equal places, each as their value and their count.
+pub fn show_index(index: &[u16]) {
+    let mut value = 0u16;
+    let mut count = 0usize;
+    for i in 0..index.len() {
+        let next = index[i];
+        if next != value {
+            show_run(value, count);
+            count = 0;
+        }
+        value = next;
+        count += 1;
+    }
+    show_run(value, count);
+}
+
+// A run, unless it has no place.
+fn show_run(value: u16, count: usize) {
+    if count == 0 {
+        return;
+    }
+    number(value as u64);
+    text(b"*");
+    io::print_decimal(STDOUT_FILENO, count as u64);
+}
+
 // The names of calls in the text, a byte for each letter.
 pub const OPEN: u64 = 0x6f70656e;
 
@@ -62,8 +88,8 @@ pub fn announce(name: u64) {
 }
 
 // The number answered. A refused opening has to hand back the void book, any other refused call the book
-// as it was; and the journal has to be as it was.
-pub fn show_answer(opening: bool, before: Book, reply: Reply, same_journal: bool) {
+// as it was; and journal and index have to be as they were.
+pub fn show_answer(opening: bool, before: Book, reply: Reply, same_buffers: bool) {
     let answer = reply.answer;
     let refusal = answer.number();
     number(refusal as u64);
@@ -71,22 +97,22 @@ pub fn show_answer(opening: bool, before: Book, reply: Reply, same_journal: bool
         return;
     }
     if opening {
-        show_void(reply.book, same_journal);
+        show_void(reply.book, same_buffers);
     } else {
-        kept(b" kept", same_book(before, reply.book) & same_journal);
+        kept(b" kept", same_book(before, reply.book) & same_buffers);
     }
 }
 
-// What posting a file gave: number and index; beside a number of the opening, 1 to 4, whether it has handed
-// back the void book and left the journal as it was.
-pub fn show_posted(posted: Posted, same_journal: bool) {
+// What posting a file gave: number and index; beside a number of the opening, 1 to 4 or 17, whether it has
+// handed back the void book and left journal and index as they were.
+pub fn show_posted(posted: Posted, same_buffers: bool) {
     let answer = posted.answer;
     let refusal = answer.number();
     text(b" post");
     number(refusal as u64);
     number(posted.refused_at as u64);
-    if (1 <= refusal) & (refusal <= 4) {
-        show_void(posted.book, same_journal);
+    if ((1 <= refusal) & (refusal <= 4)) | (refusal == 17) {
+        show_void(posted.book, same_buffers);
     }
 }
 
@@ -98,9 +124,9 @@ pub fn show_written(written: Written) {
     number(written.length as u64);
 }
 
-// Whether a refused opening has handed back the void book, and the journal is as it was.
-fn show_void(book: Book, same_journal: bool) {
-    kept(b" void", same_book(void_book(), book) & same_journal);
+// Whether a refused opening has handed back the void book, and journal and index are as they were.
+fn show_void(book: Book, same_buffers: bool) {
+    kept(b" void", same_book(void_book(), book) & same_buffers);
 }
 
 fn kept(word: &[u8], as_due: bool) {

@@ -29,7 +29,7 @@ pub(crate) fn set(
     command: Command,
     file: &mut [u8; 256],
     journal: &mut [u8; 60],
-    sizes: &mut [usize; 2],
+    sizes: &mut [usize; 3],
 ) {
     let name = command.name;
     let row = command.row;

@@ -1,7 +1,9 @@
-// The calls on a book and its journal. Each prints its name and its answer.
+// The calls on a book, its journal and its index. Each prints its name and its answer.
 use crate::commands::BYTES;
 use crate::commands::Command;
 use crate::fields::pack;
+use crate::places::copied_places;
+use crate::places::same_places;
 use book::Book;
 use book::Reply;
 use case_lines::BACK;
@@ -19,7 +21,8 @@ pub(crate) fn ask(
     command: Command,
     file: &[u8; 256],
     journal: &mut [u8; 60],
-    sizes: &[usize; 2],
+    index: &mut [u16; 24_000],
+    sizes: &[usize; 3],
 ) -> Book {
     let name = command.name;
     let row = command.row;
@@ -27,48 +30,60 @@ pub(crate) fn ask(
     pack(&mut bytes, 0, name, row, 0);
     let count = if name == BYTES { command.count } else { 12 };
     let before = copied(journal);
+    let places_before = copied_places(index);
     announce(name);
-    let reply = answered(book, name, file, sizes[0], journal, sizes[1], &bytes, count);
-    show_answer(name == OPEN, book, reply, same_bytes(&before, journal));
+    let reply = answered(book, name, file, journal, index, sizes, &bytes, count);
+    let same = same_bytes(&before, journal) & same_places(&places_before, index);
+    show_answer(name == OPEN, book, reply, same);
     reply.book
 }
 
-// Makes the call with so many bytes of each slice.
+// Makes the call with so many bytes and places of each slice.
 fn answered(
     book: Book,
     name: u64,
     file: &[u8],
-    size: usize,
     journal: &mut [u8],
-    lent: usize,
+    index: &mut [u16],
+    sizes: &[usize; 3],
     bytes: &[u8],
     count: usize,
 ) -> Reply {
-    let size = least(size, file.len());
-    let lent = least(lent, journal.len());
+    let size = least(sizes[0], file.len());
+    let lent = least(sizes[1], journal.len());
+    let places = least(sizes[2], index.len());
     let count = least(count, bytes.len());
     call(
         book,
         name,
         &file[0..size],
         &mut journal[0..lent],
+        &mut index[0..places],
         &bytes[0..count],
     )
 }
 
-fn call(book: Book, name: u64, file: &[u8], journal: &mut [u8], bytes: &[u8]) -> Reply {
+fn call(
+    book: Book,
+    name: u64,
+    file: &[u8],
+    journal: &mut [u8],
+    index: &mut [u16],
+    bytes: &[u8],
+) -> Reply {
     match name {
-        OPEN => open(file),
-        BACK => book.take_back(journal),
-        CLOSE => book.close(journal),
-        _ => book.deliver(journal, bytes),
+        OPEN => open(file, index),
+        BACK => book.take_back(journal, index),
+        CLOSE => book.close(journal, index),
+        _ => book.deliver(journal, index, bytes),
     }
 }
 
-// Asks for totals with so many bytes of the journal lent.
-pub(crate) fn ask_totals(book: Book, journal: &[u8], lent: usize) {
-    let end = least(lent, journal.len());
-    show_totals(book.totals(&journal[0..end]));
+// Asks for totals with so many bytes of the journal and places of the index lent.
+pub(crate) fn ask_totals(book: Book, journal: &[u8], index: &[u16], sizes: &[usize; 3]) {
+    let lent = least(sizes[1], journal.len());
+    let places = least(sizes[2], index.len());
+    show_totals(book.totals(&journal[0..lent], &index[0..places]));
 }
 
 pub(crate) fn copied(journal: &[u8; 60]) -> [u8; 60] {

@@ -8,6 +8,8 @@ use crate::files::ask_post;
 use crate::files::ask_write;
 use crate::forge::forge;
 use crate::forge::no_book;
+use crate::places::no_index;
+use crate::places::set_index;
 use crate::words::skip;
 use crate::words::word_at;
 use book::Book;
@@ -58,6 +60,14 @@ pub const BLANK: u64 = 0x626c616e6b;
 
 pub const FILE: u64 = 0x66696c65;
 
+pub const PLACES: u64 = 0x706c61636573;
+
+pub const PLACE: u64 = 0x706c616365;
+
+pub const PAINT: u64 = 0x7061696e74;
+
+pub const INDEX: u64 = 0x696e646578;
+
 // A command: its name, where the name ends, the numbers, how many there are, and where they end. Numbers
 // that are left out are 0.
 pub struct Command {
@@ -69,16 +79,18 @@ pub struct Command {
 }
 
 // Runs every command of the text, and prints what each answers; past 65,536 commands it stops. A case begins
-// with file, book, journal and sizes as the last `start` has left them. The sizes are how many bytes the file
-// has, and how many of the journal each call is lent.
+// with file, book, journal, index and sizes as the last `start` has left them. The sizes are how many bytes the
+// file has, and how many of the journal and places of the index each call is lent.
 pub fn run(letters: &[u8]) {
     let mut first_book = no_book();
     let mut first_file = no_file();
     let mut first_journal = no_journal();
-    let mut first_sizes = [0usize, 60];
+    let mut first_index = no_index();
+    let mut first_sizes = [0usize, 60, 24_000];
     let mut book = first_book;
     let mut file = first_file;
     let mut journal = first_journal;
+    let mut index = first_index;
     let mut sizes = first_sizes;
     let mut at = 0usize;
     for turn in 0..65_536 {
@@ -91,16 +103,19 @@ pub fn run(letters: &[u8]) {
             book = first_book;
             file = first_file;
             journal = first_journal;
+            index = first_index;
             sizes = first_sizes;
         }
         if command.name == START {
             first_book = book;
             first_file = file;
             first_journal = journal;
+            first_index = index;
             first_sizes = sizes;
         }
         set(command, &mut file, &mut journal, &mut sizes);
-        book = obey(book, command, &mut file, &mut journal, &sizes);
+        set_index(command, &mut index, &mut sizes);
+        book = obey(book, command, &mut file, &mut journal, &mut index, &sizes);
     }
     text(b"\n");
 }
@@ -156,26 +171,35 @@ fn obey(
     command: Command,
     file: &mut [u8; 256],
     journal: &mut [u8; 60],
-    sizes: &[usize; 2],
+    index: &mut [u16; 24_000],
+    sizes: &[usize; 3],
 ) -> Book {
     let name = command.name;
     let row = command.row;
     match name {
-        OPEN | DELIVER | BYTES | BACK | CLOSE => ask(book, command, file, journal, sizes),
+        OPEN | DELIVER | BYTES | BACK | CLOSE => ask(book, command, file, journal, index, sizes),
         BOOK | RECORD | FIGURES => forge(book, name, row),
-        POST => ask_post(file, sizes[0], journal, sizes[1]),
+        POST => ask_post(file, journal, index, sizes),
         _ => {
-            look(book, name, journal, sizes[1], file, row[0] as usize);
+            look(book, name, journal, index, sizes, file, row[0] as usize);
             book
         }
     }
 }
 
 // The calls that leave the book as it is.
-fn look(book: Book, name: u64, journal: &[u8], lent: usize, file: &mut [u8], room: usize) {
+fn look(
+    book: Book,
+    name: u64,
+    journal: &[u8],
+    index: &[u16],
+    sizes: &[usize; 3],
+    file: &mut [u8],
+    room: usize,
+) {
     match name {
-        TOTALS => ask_totals(book, journal, lent),
-        WRITE => ask_write(book, journal, lent, file, room),
+        TOTALS => ask_totals(book, journal, index, sizes),
+        WRITE => ask_write(book, journal, index, sizes, file, room),
         _ => {}
     }
 }

@@ -2,6 +2,8 @@
 use crate::calls::copied;
 use crate::calls::least;
 use crate::calls::same_bytes;
+use crate::places::copied_places;
+use crate::places::same_places;
 use book::Book;
 use case_lines::show_posted;
 use case_lines::show_written;
@@ -9,23 +11,44 @@ use posting::Posted;
 use posting::post;
 use writing::write;
 
-// Posts so many bytes of the file into so many of the journal.
-pub(crate) fn ask_post(file: &[u8], size: usize, journal: &mut [u8; 60], lent: usize) -> Book {
+// Posts the file, with so many bytes of it and of the journal and places of the index lent.
+pub(crate) fn ask_post(
+    file: &[u8],
+    journal: &mut [u8; 60],
+    index: &mut [u16; 24_000],
+    sizes: &[usize; 3],
+) -> Book {
     let before = copied(journal);
-    let posted = posted(file, size, journal, lent);
-    show_posted(posted, same_bytes(&before, journal));
+    let places_before = copied_places(index);
+    let posted = posted(file, journal, index, sizes);
+    let same = same_bytes(&before, journal) & same_places(&places_before, index);
+    show_posted(posted, same);
     posted.book
 }
 
-fn posted(file: &[u8], size: usize, journal: &mut [u8], lent: usize) -> Posted {
-    let size = least(size, file.len());
-    let lent = least(lent, journal.len());
-    post(&file[0..size], &mut journal[0..lent])
+fn posted(file: &[u8], journal: &mut [u8], index: &mut [u16], sizes: &[usize; 3]) -> Posted {
+    let size = least(sizes[0], file.len());
+    let lent = least(sizes[1], journal.len());
+    let places = least(sizes[2], index.len());
+    post(&file[0..size], &mut journal[0..lent], &mut index[0..places])
 }
 
 // Writes the book into the first bytes of the file, so many of which are the output.
-pub(crate) fn ask_write(book: Book, journal: &[u8], lent: usize, file: &mut [u8], room: usize) {
-    let lent = least(lent, journal.len());
+pub(crate) fn ask_write(
+    book: Book,
+    journal: &[u8],
+    index: &[u16],
+    sizes: &[usize; 3],
+    file: &mut [u8],
+    room: usize,
+) {
+    let lent = least(sizes[1], journal.len());
+    let places = least(sizes[2], index.len());
     let room = least(room, file.len());
-    show_written(write(book, &journal[0..lent], &mut file[0..room]));
+    show_written(write(
+        book,
+        &journal[0..lent],
+        &index[0..places],
+        &mut file[0..room],
+    ));
 }

@@ -11,7 +11,8 @@ use opening::open;
 // The book of no file, which no opening accepts.
 pub(crate) fn no_book() -> Book {
     let nothing = [0u8; 1];
-    let opened = open(&nothing[0..0]);
+    let mut places = [0u16; 1];
+    let opened = open(&nothing[0..0], &mut places);
     opened.book
 }
 

@@ -5,6 +5,7 @@ mod commands;
 mod fields;
 mod files;
 mod forge;
+mod places;
 mod words;
 
 pub use commands::run;

@@ -1,4 +1,4 @@
-// The buffers of the program. Their contracts give the length alone, since so many zeros written out
+// The buffers of the program. Their contracts give the length alone, since so many numbers written out
 // would be too much for the prover.
 ghost use mathlib.Core.Path.{_≡_};
 ghost use lib.ListN.{length};
@@ -15,6 +15,13 @@ pub(crate) fn journal() -> [u8; 786_432]
     ensures { λ r. ⌜ 786432 ≡ length r ⌝ }
 {
     [0; 786_432]
+}
+
+// The longest index that can be asked for, of a number that an opening has to overwrite.
+pub(crate) fn index() -> [u16; 32_768]
+    ensures { λ r. ⌜ 32768 ≡ length r ⌝ }
+{
+    [65_535; 32_768]
 }
 
 // Room for the answers.

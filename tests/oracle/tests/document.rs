@@ -313,6 +313,13 @@ fn opening_asks_for_the_places_of_its_points() {
 }
 
 #[test]
+fn replayed_sample_prints_as_worked_out() {
+    let calls = include_bytes!("../../../samples/2024-02.calls");
+    assert_eq!(calls, include_bytes!("../../../crates/replay/stdin"));
+    assert_eq!(replay::text(calls), include_str!("../../../crates/replay/stdout"));
+}
+
+#[test]
 fn replay_ends_at_what_is_no_whole_call() {
     let entry = entry([0, 0, 1, 1, 0, 2_000, 22_050, 22_000]).bytes();
     let deliver = [&[0, 12][..], &entry].concat();
