@@ -11,6 +11,7 @@ use libc::STDOUT_FILENO;
 use posting::Posted;
 use worth::Figures;
 use writing::Written;
+ghost use Prim.Native.Nat.{_≤_};
 
 // Bytes as they are.
 pub fn text(text: &[u8]) {
@@ -50,14 +51,22 @@ pub fn show_index(index: &[u16]) {
     let mut count = 0usize;
     for i in 0..index.len() {
         let next = index[i];
-        if next != value {
-            show_run(value, count);
-            count = 0;
-        }
+        let going_on = going_on(value, count, next);
         value = next;
-        count += 1;
+        count = going_on + 1;
     }
     show_run(value, count);
+}
+
+// How many places a run has before the next one: where that has another value, the run is shown, and there are none.
+fn going_on(value: u16, count: usize, next: u16) -> usize
+    ensures { λ r. ⌜ r ≤ count ⌝ }
+{
+    if next == value {
+        return count;
+    }
+    show_run(value, count);
+    0
 }
 
 // A run, unless it has no place.

@@ -6,10 +6,10 @@ use Rattle.cases.proofs.commands.run.Statement.{statement}
 use Rattle.cases.proofs.commands.run.Tie as tie
 
 abbrev Inv-loop : tie.InvT-loop
-Inv-loop letters first-book₀ first-file₀ first-journal₀ first-sizes₀ book₀ file₀ journal₀ sizes₀ at₀ turn₀ t13 first-book first-file first-journal first-sizes book file journal sizes at turn = Unit
+Inv-loop letters first-book₀ first-file₀ first-journal₀ first-index₀ first-sizes₀ book₀ file₀ journal₀ index₀ sizes₀ at₀ turn₀ t16 first-book first-file first-journal first-index first-sizes book file journal index sizes at turn = Unit
 
 abbrev μ-loop : tie.MeasureT-loop
-μ-loop letters first-book₀ first-file₀ first-journal₀ first-sizes₀ book₀ file₀ journal₀ sizes₀ at₀ turn₀ t13 first-book first-file first-journal first-sizes book file journal sizes at turn = 65536 - turn
+μ-loop letters first-book₀ first-file₀ first-journal₀ first-index₀ first-sizes₀ book₀ file₀ journal₀ index₀ sizes₀ at₀ turn₀ t16 first-book first-file first-journal first-index first-sizes book file journal index sizes at turn = 65536 - turn
 
 no-book-requires : tie.Need-no-book-requires Inv-loop μ-loop
 no-book-requires c κs = tt
@@ -19,6 +19,9 @@ no-file-requires c κs = tt
 
 no-journal-requires : tie.Need-no-journal-requires Inv-loop μ-loop
 no-journal-requires c κs = tt
+
+no-index-requires : tie.Need-no-index-requires Inv-loop μ-loop
+no-index-requires c κs = tt
 
 loop-holds : tie.Need-loop-holds Inv-loop μ-loop
 loop-holds c = tt
@@ -32,14 +35,17 @@ after-label-requires c κs = tt
 set-requires : tie.Need-set-requires Inv-loop μ-loop
 set-requires c κs = tt
 
+set-index-requires : tie.Need-set-index-requires Inv-loop μ-loop
+set-index-requires c κs = tt
+
 obey-requires : tie.Need-obey-requires Inv-loop μ-loop
 obey-requires c κs = tt
 
 add-turn : tie.Need-add-turn Inv-loop μ-loop
-add-turn c = omega (arith, c .before .before .before .before .before .before .before .before .before .before .before .before .before .before .before .before .loop-test .taken)
+add-turn c = omega (arith, c .before .before .before .before .before .before .before .before .before .before .before .before .before .before .before .before .before .before .before .before .loop-test .taken)
 
 loop-less : tie.Need-loop-less Inv-loop μ-loop
-loop-less c = omega (arith, c .before .before .before .before .before .before .before .before .before .before .before .before .before .before .before .before .loop-test .taken)
+loop-less c = omega (arith, c .before .before .before .before .before .before .before .before .before .before .before .before .before .before .before .before .before .before .before .before .loop-test .taken)
 
 loop-again : tie.Need-loop-again Inv-loop μ-loop
 loop-again c = tt
@@ -62,10 +68,12 @@ run-spec =
     no-book-requires
     no-file-requires
     no-journal-requires
+    no-index-requires
     loop-holds
     command-at-requires
     after-label-requires
     set-requires
+    set-index-requires
     obey-requires
     add-turn
     loop-less
