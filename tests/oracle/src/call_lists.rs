@@ -76,7 +76,7 @@ fn limits() -> Vec<Vec<u8>> {
     ]
 }
 
-/// Totals and closes with answers of so many bytes, or of fewer than 8 less.
+/// Totals and closes whose answers take so many bytes, a multiple of 8.
 fn calls_of(answers: usize) -> Vec<u8> {
     let totals = answers / TOTALS_SIZE;
     let closes = (answers - totals * TOTALS_SIZE) / NUMBER_SIZE;
