@@ -46,7 +46,7 @@ fn largest_entry([point, quarter, version]: [i64; 3]) -> Entry {
 }
 
 /// Point, quarter and version of the entry at an index. Every point and quarter comes once before any comes
-/// again, with the next version: the case in which a search from the journal's end has furthest to go.
+/// again, with the next version: the case in which a search from the journal's end would have furthest to go.
 fn key_and_version(index: i64, points: i64) -> [i64; 3] {
     let last = quarters(YEAR, MONTH);
     let key = index * STRIDE % (points * last);

@@ -39,11 +39,13 @@ pub fn agree(one: &[u16], other: &[u16], count: u8) -> bool
     requires { ⌜ shortIndex count (now other) ≡ false ⌝ }
     ensures { λ r. ⌜ r ≡ not (differ (placesOf count) (now (one .entry)) (now (other .entry))) ⌝ }
 {
-    let places = places_of(count);
+    let compared = places_of(count);
     let mut same = true;
     // Without leaving early, many places are compared at once.
-    for place in 0..places {
-        same = same & (one[place] == other[place]);
+    for place in 0..compared {
+        let said = one[place];
+        let due = other[place];
+        same = same & (said == due);
     }
     same
 }

@@ -1,6 +1,6 @@
 //! The most entries that a header can count, with figures as large as they can be: what the two sides give
 //! is compared, and not measured.
-use crate::ours;
+use crate::ours::{self, Lent};
 use crate::table::grouped;
 use bench::book::post;
 use bench::months::{largest, MOST};
@@ -24,11 +24,11 @@ pub fn compare() {
 
 /// Every entry is posted, and the totals are the same.
 fn compare_totals(file: &[u8]) {
-    let mut journal = vec![0; ENTRY_SIZE * MOST as usize];
+    let mut lent = Lent::of(ENTRY_SIZE * MOST as usize);
     let mut answer = [0; ours::ANSWER_SIZE];
-    let number = ours::post_totals(file, &mut journal, 1, &mut answer);
+    let number = ours::post_totals(file, &mut lent, 1, &mut answer);
     assert_eq!(number, 0, "the library refuses the largest file");
-    let book = post(file, journal.len()).expect("plain Rust takes the file");
+    let book = post(file, lent.journal.len()).expect("plain Rust takes the file");
     let totals = book.totals().expect("the stored sums are right");
     assert_eq!(ours::numbers(&answer), ours::expected(MOST as usize, &totals), "the largest totals differ");
     assert_eq!(totals[0][7], DEBIT, "the debit of the first point");
@@ -36,9 +36,9 @@ fn compare_totals(file: &[u8]) {
 
 /// The last entry does not fit a journal that is one byte shorter.
 fn compare_refusal(file: &[u8]) {
-    let mut journal = vec![0; ENTRY_SIZE * MOST as usize - 1];
+    let mut lent = Lent::of(ENTRY_SIZE * MOST as usize - 1);
     let mut answer = [0; ours::ANSWER_SIZE];
-    let number = ours::post_totals(file, &mut journal, 0, &mut answer);
-    assert_eq!(Some(number), post(file, journal.len()).err(), "the refusals differ");
+    let number = ours::post_totals(file, &mut lent, 0, &mut answer);
+    assert_eq!(Some(number), post(file, lent.journal.len()).err(), "the refusals differ");
     assert_eq!(number, 10, "a full journal");
 }

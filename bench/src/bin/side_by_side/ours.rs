@@ -4,6 +4,22 @@ use oracle::book::{Figures, PLACES};
 /// Bytes of an answer: number, length of the journal's list, and the figures of 8 places.
 pub const ANSWER_SIZE: usize = 8 * (2 + 8 * PLACES);
 
+/// Places of an index for the most points: "2,976 places for each point" (02, Ticket 6).
+const INDEX_PLACES: usize = 2_976 * PLACES;
+
+/// What is lent to the library for a book.
+pub struct Lent {
+    pub journal: Vec<u8>,
+    index: Vec<u16>,
+}
+
+impl Lent {
+    /// A journal of so many bytes, and an index for the most points.
+    pub fn of(bytes: usize) -> Lent {
+        Lent { journal: vec![0; bytes], index: vec![0; INDEX_PLACES] }
+    }
+}
+
 #[link(name = "reactive", kind = "static")]
 extern "C" {
     fn reactive_post_totals(
@@ -11,6 +27,8 @@ extern "C" {
         file_length: usize,
         journal: *mut u8,
         journal_length: usize,
+        index: *mut u16,
+        index_length: usize,
         rounds: u32,
         answer: *mut u8,
         answer_length: usize,
@@ -18,10 +36,22 @@ extern "C" {
 }
 
 /// Posts the file, then calls totals so many times; the last answer stays in the slice. Gives post's number.
-pub fn post_totals(file: &[u8], journal: &mut [u8], rounds: u32, answer: &mut [u8]) -> u32 {
-    let (lent, length) = (journal.as_mut_ptr(), journal.len());
+pub fn post_totals(file: &[u8], lent: &mut Lent, rounds: u32, answer: &mut [u8]) -> u32 {
+    let Lent { journal, index } = lent;
     // Each pointer and length are those of one slice, and what is written to is lent to nobody else.
-    unsafe { reactive_post_totals(file.as_ptr(), file.len(), lent, length, rounds, answer.as_mut_ptr(), answer.len()) }
+    unsafe {
+        reactive_post_totals(
+            file.as_ptr(),
+            file.len(),
+            journal.as_mut_ptr(),
+            journal.len(),
+            index.as_mut_ptr(),
+            index.len(),
+            rounds,
+            answer.as_mut_ptr(),
+            answer.len(),
+        )
+    }
 }
 
 /// The numbers of an answer: that of totals, the length of the list, and the figures.

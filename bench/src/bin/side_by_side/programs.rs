@@ -10,8 +10,8 @@ use std::process::{Command, Stdio};
 
 const RUNS: usize = 25;
 
-/// Measures both programs on the same file, in turns; each must print what the oracle does.
-pub fn measure() {
+/// Measures both programs on the same file, in turns; each must print what the oracle does. Gives the ratio.
+pub fn measure() -> f64 {
     let rust = env::current_exe().expect("this program has a path").with_file_name("plain_statement");
     let input = rust.with_file_name("fullest.month");
     let ours = target().join("bin/statement");
@@ -32,7 +32,9 @@ pub fn measure() {
         table::grouped(bytes.len() as u64),
         table::grouped(FULLEST as u64)
     );
-    table::times(median(times_of_ours), median(times_of_rust), &what);
+    let (ours, rust) = (median(times_of_ours), median(times_of_rust));
+    table::times(ours, rust, &what);
+    ours / rust
 }
 
 /// What a program prints for a file as its standard input.

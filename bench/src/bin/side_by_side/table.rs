@@ -3,8 +3,9 @@
 /// What the columns are.
 pub fn heading() {
     println!("Ratio: time of ours / time of plain Rust, so that above 1 ours takes longer. Both built for release.");
-    println!("The last ratio is of ours alone, at two sizes.");
-    println!("Totals: both sum the journal afresh; ours also tests each entry again (number 7).");
+    println!("The last two ratios are of ours alone, each at two sizes.");
+    println!("Post: ours finds the entry that stands by the index, plain Rust by a hash map.");
+    println!("Totals: both sum the journal afresh; ours also tests each entry and the index again (number 7).");
     println!("{:>9}  {:>14}  {:>14}", "ratio", "ours", "Rust");
 }
 

@@ -10,10 +10,10 @@ use Rattle.index.proofs.agree.Statement.{statement}
 use Rattle.index.proofs.agree.Tie as tie
 
 abbrev Inv-loop : tie.InvT-loop
-Inv-loop one other count places same₀ place₀ same place = (place ≤ places) × (same ≡ not (differ place one other))
+Inv-loop one other count compared same₀ place₀ same place = (place ≤ compared) × (same ≡ not (differ place one other))
 
 abbrev μ-loop : tie.MeasureT-loop
-μ-loop one other count places same₀ place₀ same place = places - place
+μ-loop one other count compared same₀ place₀ same place = compared - place
 
 places-of-requires : tie.Need-places-of-requires Inv-loop μ-loop
 places-of-requires c κs = search needs
@@ -21,23 +21,23 @@ places-of-requires c κs = search needs
 loop-holds : tie.Need-loop-holds Inv-loop μ-loop
 loop-holds c = (omega arith, none-differ _ _)
 
-mul-same : tie.Need-mul-same Inv-loop μ-loop
-mul-same c =
+mul-said : tie.Need-mul-said Inv-loop μ-loop
+mul-said c =
     let p = c .before .before in
     record { fits = omega (arith, p .places-of .ensures) }
 
-shared-slice-read-same : tie.Need-shared-slice-read-same Inv-loop μ-loop
-shared-slice-read-same c =
+shared-slice-read-said : tie.Need-shared-slice-read-said Inv-loop μ-loop
+shared-slice-read-said c =
     let p = c .before .before .before in
     omega (arith, p .places-of .ensures, c .before .loop-test .taken, long-enough _ _ (p .before .before .before .pre .0))
 
-mul-same-2 : tie.Need-mul-same-2 Inv-loop μ-loop
-mul-same-2 c =
+mul-due : tie.Need-mul-due Inv-loop μ-loop
+mul-due c =
     let p = c .before .before .before in
     record { fits = omega (arith, p .places-of .ensures) }
 
-shared-slice-read-same-2 : tie.Need-shared-slice-read-same-2 Inv-loop μ-loop
-shared-slice-read-same-2 c =
+shared-slice-read-due : tie.Need-shared-slice-read-due Inv-loop μ-loop
+shared-slice-read-due c =
     let p = c .before .before .before .before in
     omega (arith, p .places-of .ensures, c .before .before .loop-test .taken, long-enough _ _ (p .before .before .before .pre .1))
 
@@ -70,10 +70,10 @@ agree-spec =
     μ-loop
     places-of-requires
     loop-holds
-    mul-same
-    shared-slice-read-same
-    mul-same-2
-    shared-slice-read-same-2
+    mul-said
+    shared-slice-read-said
+    mul-due
+    shared-slice-read-due
     add-place
     loop-less
     loop-again

@@ -40,16 +40,16 @@ returns c =
 key-place-requires : tie.Need-key-place-requires
 key-place-requires c κs = search needs
 
-mul-replaced : tie.Need-mul-replaced
-mul-replaced c = search needs
+mul-replaced-at : tie.Need-mul-replaced-at
+mul-replaced-at c = search needs
 
-slice-read-replaced : tie.Need-slice-read-replaced
-slice-read-replaced c =
+slice-read-replaced-at : tie.Need-slice-read-replaced-at
+slice-read-replaced-at c =
     let own = c .before in
     is-place (given (own .before .before .before .before .before .before .before)) (within (own .before)) _ (own .key-place .ensures)
 
-cast-replaced : tie.Need-cast-replaced
-cast-replaced c = record { fits = omega (arith, c .slice-known3 .given (c .before .key-place .result) .fits) }
+cast-replaced-at : tie.Need-cast-replaced-at
+cast-replaced-at c = record { fits = omega (arith, c .slice-known3 .given (c .before .key-place .result) .fits) }
 
 found-at-requires : tie.Need-found-at-requires
 found-at-requires c κs =
@@ -163,9 +163,9 @@ deliver-entry-spec =
     reply-requires
     returns
     key-place-requires
-    mul-replaced
-    slice-read-replaced
-    cast-replaced
+    mul-replaced-at
+    slice-read-replaced-at
+    cast-replaced-at
     found-at-requires
     supersedes-requires
     capacity-requires
