@@ -1,7 +1,7 @@
 -- The number of a call from its conditions. Assumes nothing.
 use Prim.Native.Nat.{ℕ, _<_}
 use mathlib.Core.Path.{_≡_, refl, sym, _∙_}
-use mathlib.Core.Bool.{Bool, true, false, cond, _&&_}
+use mathlib.Core.Bool.{Bool, true, false, cond, not, _&&_}
 use borrow.Author.Tests.{eqb-true, not-true, not-false}
 use lib.Dec.{eqb}
 use Rattle.refusals.specs.Refusals.{first}
@@ -73,13 +73,20 @@ called-number b l c = go (eqb (number b l c) 0) refl
 pub judged-short : (b : Book) (l : Lent) → shortIndex (b .master .count) (l .index) ≡ true → 17 ≡ first (guards b l)
 judged-short b l h = sym (stop 17 _ h)
 
-module _ (b : Book) (l : Lent) (long : shortIndex (b .master .count) (l .index) ≡ false) (r : Afresh) (equal : Bool)
-    (e : r ≡ afresh (b .master) (b .length) (l .journal) (l .index)) (q : equal ≡ allSame (b .totals) (r .totals)) where
+pub record Judged (b : Book) (l : Lent) (r : Afresh) (equal : Bool) : Type 0 where
+  pub long : shortIndex (b .master .count) (l .index) ≡ false
+  pub summed : r ≡ afresh (b .master) (b .length) (l .journal) (l .index)
+  pub compared : equal ≡ allSame (b .totals) (r .totals)
+
+module _ {b : Book} {l : Lent} {r : Afresh} {equal : Bool} (k : Judged b l r equal) where
+  seven : (r .lawful && equal) ≡ not (unsound b l)
+  seven = judged b l r equal (k .summed) (k .compared)
+
   pub judged-sound : (r .lawful && equal) ≡ true → 0 ≡ first (guards b l)
-  judged-sound h = sym (skip 17 _ long ∙ skip 7 0 (not-true (unsound b l) (sym (judged b l r equal e q) ∙ h)))
+  judged-sound h = sym (skip 17 _ (k .long) ∙ skip 7 0 (not-true (unsound b l) (sym seven ∙ h)))
 
   pub judged-unsound : (r .lawful && equal) ≡ false → 7 ≡ first (guards b l)
-  judged-unsound h = sym (skip 17 _ long ∙ stop 7 0 (not-false (unsound b l) (sym (judged b l r equal e q) ∙ h)))
+  judged-unsound h = sym (skip 17 _ (k .long) ∙ stop 7 0 (not-false (unsound b l) (sym seven ∙ h)))
 
 -- what totals gives of a sound book
 pub sound-given : {b : Book} {l : Lent} → Sound b l

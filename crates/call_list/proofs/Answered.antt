@@ -17,10 +17,6 @@ unfolding lengthAndFigures
 alone b l (change c) h = refl
 alone b l totals h = absurd (omega arith)
 
--- what a call gives is what a call that is the same gives
-pub same-call : {b : Book} {l : Lent} {c d : Call} {o : Outcome} → o ≡ after b l c → c ≡ d → o ≡ after b l d
-same-call {b} {l} e h = e ∙ ap (after b l) h
-
 -- the call c on book b and what is lent, its answer put into `out` from `to` on
 module _ (b : Book) (l : Lent) (c : Call) (out : List ℕ) (to : ℕ) where
   -- the book, what is lent and the slice are as the call leaves them

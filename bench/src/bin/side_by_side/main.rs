@@ -41,7 +41,7 @@ fn main() {
     calls::measure(600, 15, 1_000);
     calls::measure(6_000, 9, 1_000);
     calls::measure(60_000, 3, 200);
-    let post = calls::post_growth(25);
+    let post = calls::post_growth(15);
     table::growth(post, "post of 60,000 entries / post of 600, for each entry, ours");
     let totals = calls::totals_growth(5);
     table::growth(totals, "totals on 60,000 entries / totals on 6,000, ours");

@@ -1,4 +1,5 @@
 -- `book::Book::deliver_entry` meets its contract. Assumes nothing.
+use Prim.Native.Nat.{_<_}
 use mathlib.Core.Path.{_≡_, refl, sym, _∙_}
 use mathlib.Core.Bool.{false}
 use native.Mathlib.Omega.{arith}
@@ -112,17 +113,19 @@ write-at-requires c κs =
     let k = answered (told .before .before) in
     (has-room k (told .enum-told .given .1), read-size _ _ (k .given .read))
 
-add-longer : tie.Need-add-longer
-add-longer c =
+-- its position plus one fits 16 bits
+next : (c : tie.After-slice-known4)
+    → c .before .before .before .before .before .before .before .before .before .before .before .before .before .before .before .before .before .before .before .before .args .self .length
+    < 65535
+next c =
     let told = c .before .before .before .before in
-    let k = told .before .before in
-    record { fits = omega (arith, counts (answered k) (told .enum-told .given .1)) }
+    counts (answered (told .before .before)) (told .enum-told .given .1)
+
+add-longer : tie.Need-add-longer
+add-longer c = record { fits = omega (arith, next c) }
 
 cast-index : tie.Need-cast-index
-cast-index c =
-    let told = c .before .before .before .before in
-    let k = told .before .before in
-    record { fits = omega (arith, counts (answered k) (told .enum-told .given .1)) }
+cast-index c = record { fits = omega (arith, next c) }
 
 mul-index : tie.Need-mul-index
 mul-index c =

@@ -7,7 +7,7 @@ use lib.ListN.{length}
 use Rattle.index.specs.Index.{shortIndex}
 use Rattle.index.proofs.Comparing.{is-short, not-short}
 use Rattle.book.specs.Library.{lent}
-use Rattle.book.proofs.Numbers.{judged-short, judged-sound, judged-unsound}
+use Rattle.book.proofs.Numbers.{judged-short, Judged, judged-sound, judged-unsound}
 use Rattle.book.proofs.judgement.judge.Statement.{statement}
 use Rattle.book.proofs.judgement.judge.Tie as tie
 
@@ -31,21 +31,20 @@ summed-afresh-requires c κs = long (c .before)
 are-equal-requires : tie.Need-are-equal-requires
 are-equal-requires c κs = search needs
 
-returns-2 : tie.Need-returns-2
-returns-2 c =
-    let equal = c .before .before in
-    let sums = equal .before .before in
+-- all was tested
+asked : (c : tie.After-are-equal)
+    → let sums = c .before .before in
     let s = sums .before .before .before .before .before .before .before in
-    judged-sound (s .args .book) (lent (s .args .journal .now) (s .args .index .now)) (long (sums .before .before)) _ _ (sums .summed-afresh .ensures)
-    (equal .are-equal .ensures) (c .if2 .taken)
+    Judged (s .args .book) (lent (s .args .journal .now) (s .args .index .now)) (sums .summed-afresh .result) (c .are-equal .result)
+asked c =
+    let sums = c .before .before in
+    record { long = long (sums .before .before); summed = sums .summed-afresh .ensures; compared = c .are-equal .ensures }
+
+returns-2 : tie.Need-returns-2
+returns-2 c = judged-sound (asked (c .before .before)) (c .if2 .taken)
 
 returns-3 : tie.Need-returns-3
-returns-3 c =
-    let equal = c .before .before in
-    let sums = equal .before .before in
-    let s = sums .before .before .before .before .before .before .before in
-    judged-unsound (s .args .book) (lent (s .args .journal .now) (s .args .index .now)) (long (sums .before .before)) _ _ (sums .summed-afresh .ensures)
-    (equal .are-equal .ensures) (c .if2 .left)
+returns-3 c = judged-unsound (asked (c .before .before)) (c .if2 .left)
 
 pub judge-spec : {M : Type 1} → statement M
 judge-spec =

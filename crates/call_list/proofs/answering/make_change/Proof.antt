@@ -1,8 +1,9 @@
 -- `call_list::answering::make_change` meets its contract. Assumes nothing.
+use mathlib.Core.Path.{ap, _∙_}
 use native.Mathlib.Omega.{arith}
 use borrow.Author.Needs.{needs}
+use Rattle.book.specs.Library.{after}
 use Rattle.call_script.proofs.Scripts.{whole-inside, whole-delivery, call-delivery, call-take-back, call-close}
-use Rattle.call_list.proofs.Answered.{same-call}
 use Rattle.call_list.proofs.answering.make_change.Statement.{statement}
 use Rattle.call_list.proofs.answering.make_change.Tie as tie
 
@@ -21,7 +22,7 @@ same-length-2 c = search needs
 returns : tie.Need-returns
 returns c =
     let made = c .before .before .before .before in
-    same-call (made .take-back .ensures) (call-take-back _ _ (made .before .before .before .if1 .taken))
+    made .take-back .ensures ∙ ap (after _ _) (call-take-back _ _ (made .before .before .before .if1 .taken))
 
 close-requires : tie.Need-close-requires
 close-requires c κs = search needs
@@ -33,7 +34,7 @@ same-length-4 : tie.Need-same-length-4
 same-length-4 c = search needs
 
 returns-2 : tie.Need-returns-2
-returns-2 c = same-call (c .close .ensures) (call-close _ _ (c .before .before .before .if2 .taken))
+returns-2 c = c .close .ensures ∙ ap (after _ _) (call-close _ _ (c .before .before .before .if2 .taken))
 
 add-start : tie.Need-add-start
 add-start c =
@@ -83,7 +84,7 @@ same-length-6 c = search needs
 returns-3 : tie.Need-returns-3
 returns-3 c =
     let s = c .before .before .before .before .before .before .before .before .before .before .before .before .before .before .before in
-    same-call (c .before .before .before .before .deliver .ensures) (call-delivery (s .args .script .now) (s .args .at) (omega arith))
+    c .before .before .before .before .deliver .ensures ∙ ap (after _ _) (call-delivery (s .args .script .now) (s .args .at) (omega arith))
 
 pub make-change-spec : {M : Type 1} → statement M
 make-change-spec =
