@@ -42,7 +42,7 @@ unfoldable pub wrongLength : List ℕ → Bool
 wrongLength file = not (eqb (length file) (7 + 21 * header file .points + 12 * header file .entries))
 
 -- "Open: 1, 2, 3, 4."; 1: "Fewer than 7 bytes." 2: "A header field wrong."; 02, Ticket 6: "17 if the index slice is shorter than the
--- points need, .. in open after 4"
+-- points need, .. in open after 4". The index is x here and below
 abbrev pub openingConditions : List ℕ → List ℕ → List (ℕ × Bool)
 openingConditions file x =
     (1, ltb (length file) 7)
@@ -80,7 +80,7 @@ freshOf m = record { master = m; length = 0; closed = false; totals = replicate 
 unfoldable pub openedBook : List ℕ → List ℕ → Book
 openedBook file x = cond (eqb (openingNumber file x) 0) (freshOf (masterOf (header file) (padded (points file)))) void
 
--- 02, Ticket 6: "Opening zeroes those places"; a refused one changes no buffer
+-- 02, Ticket 6: "Opening zeroes those places"; 01: "A refused call changes neither book nor buffer"
 unfoldable pub openedIndex : List ℕ → List ℕ → List ℕ
 openedIndex file x = cond (eqb (openingNumber file x) 0) (cleared (header file .points) x) x
 
