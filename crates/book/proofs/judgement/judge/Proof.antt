@@ -1,9 +1,8 @@
 -- `book::judgement::judge` meets its contract. Assumes nothing.
-use mathlib.Core.Path.{_≡_, ap, _∙_}
+use mathlib.Core.Path.{_≡_}
 use mathlib.Core.Bool.{false}
 use native.Mathlib.Omega.{arith}
 use borrow.Author.Needs.{needs}
-use lib.ListN.{length}
 use Rattle.index.specs.Index.{shortIndex}
 use Rattle.index.proofs.Comparing.{is-short, not-short}
 use Rattle.book.specs.Library.{lent}
