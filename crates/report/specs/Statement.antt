@@ -84,7 +84,7 @@ TotalIsSum =
 abbrev pub NeverFull : Type 0
 NeverFull = (input : List ℕ) → statement input .number ≡ 10 → ⊥
 
--- so is 17, of 02's Ticket 6
+-- nor is it 02's 17: the program's own index is long enough for every file that 2 lets pass
 abbrev pub NeverShort : Type 0
 NeverShort = (input : List ℕ) → statement input .number ≡ 17 → ⊥
 
