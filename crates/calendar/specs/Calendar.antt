@@ -1,4 +1,4 @@
--- Document 01, "Month file": the quarters of a month. Assumes nothing.
+-- The quarters of a month: document 01, "Month file", as 02, Ticket 7, amends it. Assumes nothing.
 use Prim.Native.Nat.{ℕ, _*_, _%_}
 use mathlib.Core.Bool.{Bool, true, cond, not, _&&_, _||_}
 use mathlib.Core.List.{List, [], _∷_}
@@ -16,13 +16,17 @@ daysOf year month =
     (cond (leb 1 month && leb month 12) 31
     0))
 
--- "The month has 96 quarters a day, by the Gregorian calendar"
+-- 01: "The month has 96 quarters a day, by the Gregorian calendar"; 02, Ticket 7: "four quarters fewer in March and four more in
+-- October: 2,972 and 2,980, and 96 a day in all other months"
 unfoldable pub quartersOf : ℕ → ℕ → ℕ
-quartersOf year month = 96 * daysOf year month
+quartersOf year month =
+    cond (eqb month 3) 2972
+    (cond (eqb month 10) 2980
+    (96 * daysOf year month))
 
--- the most quarters that a month can have: those of 31 days
+-- the most quarters that a month can have: those of October
 abbrev pub mostQuarters : ℕ
-mostQuarters = 2976
+mostQuarters = 2980
 
 -- A month that was looked up in the calendar, and its quarters.
 pub record Known : Type 0 where
@@ -42,14 +46,16 @@ calendar =
     ∷ known 2000 2 2784
     ∷ known 1900 2 2688
     ∷ known 2020 1 2976
-    ∷ known 2021 3 2976
+    ∷ known 2021 3 2972
+    ∷ known 2024 3 2972
     ∷ known 2021 4 2880
     ∷ known 2021 5 2976
     ∷ known 2021 6 2880
     ∷ known 2021 7 2976
     ∷ known 2021 8 2976
     ∷ known 2021 9 2880
-    ∷ known 2021 10 2976
+    ∷ known 2021 10 2980
+    ∷ known 2024 10 2980
     ∷ known 2021 11 2880
     ∷ known 2020 12 2976
     ∷ known 2020 0 0

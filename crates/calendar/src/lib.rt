@@ -1,15 +1,21 @@
-// The calendar, document 01, "Month file": the length of a month in quarter-hours.
+// The calendar: the length of a month in quarter-hours, document 01, "Month file", as 02, Ticket 7, amends it.
 ghost use mathlib.Core.Path.{_≡_};
 ghost use Prim.Native.Nat.{_≤_};
 ghost use Rattle.calendar.specs.Calendar.{leap, daysOf, quartersOf};
 
-// The most quarter-hours that a month can have.
-pub const MOST_QUARTERS: usize = 2_976;
+// The most quarter-hours that a month can have: October's.
+pub const MOST_QUARTERS: usize = 2_980;
 
-// The quarter-hours of a month, 96 a day; 0 where there is no such month.
+// The quarter-hours of a month, 96 a day but where the clock changes; 0 where there is no such month.
 pub fn quarters_of_month(year: u16, month: u8) -> u16
     ensures { λ r. ⌜ r ≡ quartersOf year month ⌝ }
 {
+    if month == 3 {
+        return 2_972;
+    }
+    if month == 10 {
+        return 2_980;
+    }
     96 * days_of_month(year, month)
 }
 
