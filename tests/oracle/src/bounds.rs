@@ -115,7 +115,7 @@ pub fn calendar() -> Vec<Vec<u8>> {
     let mut files = Vec::new();
     for (year, month) in (2020..2100).flat_map(|year| (1..13).map(move |month| (year, month))) {
         for past in 0..2 {
-            let quarter = 96 * days(year, month) - 1 + past;
+            let quarter = quarters(year, month) - 1 + past;
             let entries = vec![entry([0, quarter, 1, 1, year, month, 22_000, 22_000])];
             files.push(File::new(year, month, vec![active(0, 1_000, 1_000, 0)], entries).bytes());
         }

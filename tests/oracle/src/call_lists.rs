@@ -1,10 +1,10 @@
 //! Inputs of the program `replay`: a file, the lengths of a journal and of an index, and a list of calls,
 //! refused ones among them.
 use crate::book::POINT_PLACES;
-use crate::month_file::{quarters, File};
+use crate::month_file::{quarters, Entry, File, ENTRY_SIZE};
 use crate::random::Random;
 use crate::replay::{ANSWERS_MOST, INDEX_MOST, INPUT_MOST, JOURNAL_MOST, NUMBER_SIZE, TOTALS_SIZE};
-use crate::right_files::{active, entry, example, right_entry, right_file};
+use crate::right_files::{active, entry, example, month_ends, right_entry, right_file};
 use crate::trial::Case;
 
 pub const TAKE_BACK: u8 = 1;
@@ -46,6 +46,7 @@ pub fn all(seed: u64) -> Vec<Case> {
     }
     cases.extend(cut_short().into_iter().chain(limits()).map(|input| Case { group: "limits", input }));
     cases.extend(index_lengths().into_iter().chain(order()).map(|input| Case { group: "index lengths", input }));
+    cases.extend([3, 10].map(clock_change).map(|input| Case { group: "clock changes", input }));
     cases
 }
 
@@ -83,13 +84,14 @@ fn calls_of(answers: usize) -> Vec<u8> {
     [vec![TOTALS; totals], vec![CLOSE; closes]].concat()
 }
 
-/// Indexes around what the points need and what the program lends, for one point, two and eight.
+/// Indexes around what the points need and what the program lends, for one point, two and eight. October's last
+/// quarter has the last place.
 fn index_lengths() -> Vec<Vec<u8>> {
     let mut inputs = Vec::new();
     for count in [1, 2, 8] {
-        let file = File::new(2024, 1, vec![active(0, 300, 1_000, 500); count], Vec::new()).bytes();
+        let file = File::new(2024, 10, vec![active(0, 300, 1_000, 500); count], Vec::new()).bytes();
         let needed = count * POINT_PLACES;
-        let last = entry([count as i64 - 1, 2_975, 1, 1, 0, 1_000, 22_050, 22_000]).bytes();
+        let last = entry([count as i64 - 1, 2_979, 1, 1, 0, 1_000, 22_050, 22_000]).bytes();
         let calls = [&[TOTALS, 0, 12], &last[..], &[TOTALS, 0, 12], &last, &[TAKE_BACK, TOTALS, CLOSE]].concat();
         let most = u32::MAX as usize;
         for index in [0, needed - 1, needed, needed + 1, INDEX_MOST, INDEX_MOST + 1, most] {
@@ -115,6 +117,30 @@ fn order() -> Vec<Vec<u8>> {
         [start(&right, 48, short), too_many.clone()].concat(),
         [start(&wrong, 48, INDEX_MOST), too_many].concat(),
     ]
+}
+
+/// A month's first and last quarters at neighbouring points, delivered, corrected and taken back one by one, with the
+/// quarters behind its last, which are outside.
+fn clock_change(month: i64) -> Vec<u8> {
+    let file = month_ends(month);
+    let delivered = file.entries.len();
+    let mut input = start(&file.bytes(), 2 * ENTRY_SIZE * delivered, file.points.len() * POINT_PLACES);
+    for version in [1, 2] {
+        for entry in &file.entries {
+            input.extend(deliver(&Entry { version, ..entry.clone() }.bytes()));
+            let outside = Entry { quarter: entry.quarter + 4, version: 31, ..entry.clone() };
+            if entry.quarter >= 4 {
+                input.extend(deliver(&outside.bytes()));
+            }
+        }
+        input.push(TOTALS);
+    }
+    for _ in 0..2 {
+        input.extend(vec![TAKE_BACK; delivered]);
+        input.push(TOTALS);
+    }
+    input.push(TAKE_BACK);
+    input
 }
 
 fn list(random: &mut Random, plan: &Plan) -> Vec<u8> {
@@ -182,9 +208,13 @@ fn call(random: &mut Random, plan: &Plan, file: &File, pool: &[(i64, i64)]) -> V
     } else if random.once_in(take_back_in) {
         vec![TAKE_BACK]
     } else {
-        let bytes = delivery(random, file, pool);
-        [&[0, bytes.len() as u8], &bytes[..]].concat()
+        deliver(&delivery(random, file, pool))
     }
+}
+
+/// The call that delivers these bytes.
+fn deliver(bytes: &[u8]) -> Vec<u8> {
+    [&[0, bytes.len() as u8], bytes].concat()
 }
 
 /// Mostly right entries of the pool's keys; else an entry wrong in one way or in two.

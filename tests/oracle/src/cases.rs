@@ -8,7 +8,7 @@ use crate::trial::hex;
 
 const FILE_MOST: usize = 256;
 const JOURNAL_MOST: usize = 60;
-const INDEX_MOST: usize = 24_000;
+const INDEX_MOST: usize = 27_000;
 const NUMBERS_MOST: usize = 24;
 
 /// Widths of a header's fields, the two opening bytes apart.

@@ -32,6 +32,7 @@ pub fn all(seed: u64) -> Vec<Case> {
         "the fullest, and entries more",
         [5_459, 5_460, 5_461, 5_462].map(|count| one_point(count).bytes()).to_vec(),
     );
+    cases.add("clock changes", clock_changes());
     cases.list
 }
 
@@ -141,16 +142,30 @@ fn full_with_a_wrong_entry(random: &mut Random) -> Vec<u8> {
     file.bytes()
 }
 
-/// Every quarter of a long month at the greatest energy and tariffs: all debit, then all credit.
+/// Every quarter of the longest month at the greatest energy and tariffs: all debit, then all credit.
 fn greatest_amounts() -> Vec<Vec<u8>> {
     let mut files = Vec::new();
     for (take, supply) in [(1_000_000, 0), (0, 1_000_000)] {
         for actual in [0, 50_000] {
-            let made = |index: i64| entry([0, index % 2_976, index / 2_976 + 1, 1, take, supply, actual, 25_000]);
+            let made = |index: i64| entry([0, index % 2_980, index / 2_980 + 1, 1, take, supply, actual, 25_000]);
             let point = active(0, 100_000, 100_000, 100_000);
-            files.push(File::new(2024, 1, vec![point], (0..5_459).map(made).collect()).bytes());
+            files.push(File::new(2024, 10, vec![point], (0..5_459).map(made).collect()).bytes());
             let point = semi_active(1, 100_000, 100_000, &[(1, 1)]);
-            files.push(File::new(2024, 12, vec![point], (0..2_976).map(made).collect()).bytes());
+            files.push(File::new(2024, 10, vec![point], (0..2_980).map(made).collect()).bytes());
+        }
+    }
+    files
+}
+
+/// March and October: their first and last quarters at neighbouring points, and one entry for each quarter about the ends of
+/// March, of the other months of 31 days, and of October.
+fn clock_changes() -> Vec<Vec<u8>> {
+    let mut files = Vec::new();
+    for month in [3, 10] {
+        files.push(month_ends(month).bytes());
+        for quarter in 2_970..2_982 {
+            let entries = vec![entry([0, quarter, 1, 1, 0, 1_000, 22_050, 22_000])];
+            files.push(File::new(2024, month, vec![active(0, 300, 1_000, 500)], entries).bytes());
         }
     }
     files

@@ -55,6 +55,17 @@ pub fn one_point(count: i64) -> File {
     File::new(2024, 1, vec![active(0, 300, 1_000, 500)], (0..count).map(made).collect())
 }
 
+/// A month of 2024 at eight points: the first four quarters of each and the last four, each with an energy of its own.
+pub fn month_ends(month: i64) -> File {
+    let past = quarters(2024, month);
+    let mut entries = Vec::new();
+    for (place, quarter) in (0..4).chain(past - 4..past).enumerate() {
+        let energy = |point: i64| 100 * (point + 1) + place as i64;
+        entries.extend((0..8).map(|point| entry([point, quarter, 1, 1, 0, energy(point), 22_050, 22_000])));
+    }
+    File::new(2024, month, vec![active(0, 300, 1_000, 500); 8], entries)
+}
+
 pub fn four_transformers() -> File {
     let point = semi_active(0, 99_999, 100_000, &[(4000, 20_000), (1, 1), (1200, 1), (3999, 19_999)]);
     let entries = [

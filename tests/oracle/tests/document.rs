@@ -11,7 +11,9 @@ use oracle::month_file::{quarters, File, Header, HEADER};
 use oracle::quarter::{c_call, Quarter, Shares};
 use oracle::random::Random;
 use oracle::replay;
-use oracle::right_files::{active, eight_billed, entry, example, one_point, right_file, semi_active, two_halves};
+use oracle::right_files::{
+    active, eight_billed, entry, example, month_ends, one_point, right_file, semi_active, two_halves,
+};
 use oracle::statement::{rappen, text};
 
 const STATEMENT: &str = "\
@@ -132,8 +134,45 @@ fn calendar_is_gregorian() {
     assert_eq!(quarters(2023, 2), 2_688);
     assert_eq!(quarters(2000, 2), 2_784);
     assert_eq!(quarters(2100, 2), 2_688);
-    assert_eq!([1, 3, 5, 7, 8, 10, 12].map(|month| quarters(2099, month)), [2_976; 7]);
+    assert_eq!([1, 5, 7, 8, 12].map(|month| quarters(2099, month)), [2_976; 5]);
     assert_eq!([4, 6, 9, 11].map(|month| quarters(2099, month)), [2_880; 4]);
+}
+
+#[test]
+fn clocks_change_in_march_and_october() {
+    assert_eq!([2020, 2024, 2099].map(|year| quarters(year, 3)), [2_972; 3]);
+    assert_eq!([2020, 2024, 2099].map(|year| quarters(year, 10)), [2_980; 3]);
+    // Supplied at U 22050 < S + 100: paid, 1,000 · 1,600 grains, at 300 that is 300 rappen.
+    let figures = "1600000 1600000 0 0 0 0 300 0";
+    let file = |month: i64, quarter: i64| {
+        let entries = vec![entry([0, quarter, 1, 1, 0, 1_000, 22_050, 22_000])];
+        File::new(2024, month, vec![active(0, 300, 1_000, 500)], entries).bytes()
+    };
+    let march = format!("2024-03 2972 1\n0 {figures}\ntotal {figures}\n");
+    assert_eq!(text(&file(3, 2_971)), march);
+    assert_eq!(text(&file(3, 2_972)), "refused 6\n");
+    let october = format!("2024-10 2980 1\n0 {figures}\ntotal {figures}\n");
+    for quarter in 2_976..2_980 {
+        assert_eq!(text(&file(10, quarter)), october, "quarter {quarter}");
+    }
+    assert_eq!(text(&file(10, 2_980)), "refused 6\n");
+}
+
+#[test]
+fn octobers_last_quarters_are_not_the_next_points_first() {
+    // Point p supplies 100 · (p + 1) kvarh in each of eight quarters, and 0 + 1 + .. + 7 = 28 more in all.
+    let book = post(&month_ends(10).bytes(), 12 * 64, INDEX).book.expect("a right file");
+    for (point, figures) in (0..).zip(book.totals()) {
+        assert_eq!(figures[0], 1_600 * (800 * (point + 1) + 28), "point {point}");
+    }
+    // Entries 1 to 32 are the first quarters, point after point, and 33 to 64 the last.
+    let index = book.index();
+    for point in 0..7 {
+        let border = 2_980 * (point + 1);
+        let (last, next) = (33 + point as u16, 2 + point as u16);
+        assert_eq!(index[border - 4..border], [last, last + 8, last + 16, last + 24], "point {point}");
+        assert_eq!(index[border..border + 4], [next, next + 8, next + 16, next + 24], "point {}", point + 1);
+    }
 }
 
 #[test]
@@ -155,7 +194,7 @@ fn c_call_refuses_an_argument_before_a_slice() {
 }
 
 /// An index for eight points.
-const INDEX: usize = 23_808;
+const INDEX: usize = 23_840;
 
 fn one_active_point() -> Vec<u8> {
     File::new(2024, 2, vec![active(0, 300, 1_000, 500)], Vec::new()).bytes()
@@ -261,54 +300,55 @@ impl Lent {
 
 #[test]
 fn index_says_which_entries_stand() {
-    // February's last quarter is 2,783; point 1 begins at place 2,976 and ends before 5,952.
-    let mut lent = lent(&example().bytes(), 60, 5_953);
-    let past = (5_952, 0xffff);
+    // February's last quarter is 2,783; point 1 begins at place 2,980 and ends before 5,960.
+    let mut lent = lent(&example().bytes(), 60, 5_961);
+    let past = (5_960, 0xffff);
     assert_eq!(lent.marks(), [past], "opening zeroes what the points need");
     assert_eq!(lent.deliver([0, 2_783, 1, 1, 0, 1, 0, 0]), 0);
     assert_eq!(lent.deliver([1, 0, 1, 1, 0, 1, 0, 0]), 0);
     assert_eq!(lent.deliver([1, 2_783, 1, 1, 0, 1, 0, 0]), 0);
-    assert_eq!(lent.marks(), [(2_783, 1), (2_976, 2), (5_759, 3), past]);
+    assert_eq!(lent.marks(), [(2_783, 1), (2_980, 2), (5_763, 3), past]);
     assert_eq!(lent.deliver([1, 0, 2, 1, 0, 1, 0, 0]), 0);
     assert_eq!(lent.deliver([1, 0, 2, 1, 0, 1, 0, 0]), 9);
-    assert_eq!(lent.marks(), [(2_783, 1), (2_976, 4), (5_759, 3), past]);
+    assert_eq!(lent.marks(), [(2_783, 1), (2_980, 4), (5_763, 3), past]);
     assert_eq!(lent.back(), 0);
-    assert_eq!(lent.marks(), [(2_783, 1), (2_976, 2), (5_759, 3), past], "the earlier version's");
+    assert_eq!(lent.marks(), [(2_783, 1), (2_980, 2), (5_763, 3), past], "the earlier version's");
     assert_eq!([lent.back(), lent.back()], [0, 0]);
     assert_eq!(lent.marks(), [(2_783, 1), past]);
 }
 
 #[test]
 fn index_is_judged_in_the_places_of_the_points() {
-    let mut lent = lent(&example().bytes(), 60, 5_953);
+    let mut lent = lent(&example().bytes(), 60, 5_961);
     assert_eq!(lent.deliver([1, 0, 1, 1, 0, 1, 0, 0]), 0);
-    for place in [0, 2_783, 2_784, 2_975, 2_976, 5_951] {
+    for place in [0, 2_783, 2_784, 2_979, 2_980, 5_959] {
         let mut wrong = lent.index.clone();
         wrong[place] = 2;
         assert_eq!(lent.totals(&wrong), 7, "place {place}");
     }
     let mut past = lent.index.clone();
-    past[5_952] = 2;
+    past[5_960] = 2;
     assert_eq!(lent.totals(&past), 0, "neither needed nor read");
-    assert_eq!(lent.totals(&past[..5_952]), 0);
-    assert_eq!(lent.totals(&past[..5_951]), 17);
+    assert_eq!(lent.totals(&past[..5_960]), 0);
+    assert_eq!(lent.totals(&past[..5_959]), 17);
     lent.book.month = 13;
     assert_eq!(lent.totals(&past), 7);
-    assert_eq!(lent.totals(&past[..5_951]), 17, "before unsound");
+    assert_eq!(lent.totals(&past[..5_959]), 17, "before unsound");
     lent.book.count = 9;
-    assert_eq!(lent.totals(&[0; 23_808]), 17, "by the stored count");
+    assert_eq!(lent.totals(&[0; 26_819]), 17, "by the stored count");
+    assert_eq!(lent.totals(&[0; 26_820]), 7);
     assert_eq!(Held::void().totals(&[], &[]).0, 7, "which needs no place");
 }
 
 #[test]
 fn opening_asks_for_the_places_of_its_points() {
     let file = one_active_point();
-    assert_eq!(open(&file, 0, 2_975).map(|_| ()), Err(17));
-    assert!(open(&file, 0, 2_976).is_ok());
+    assert_eq!(open(&file, 0, 2_979).map(|_| ()), Err(17));
+    assert!(open(&file, 0, 2_980).is_ok());
     let mut wrong_point = file.clone();
     wrong_point[7] = 0x08;
     assert_eq!(open(&wrong_point, 0, 0).map(|_| ()), Err(4), "before the index");
-    let posted = post(&example().bytes(), 60, 5_951);
+    let posted = post(&example().bytes(), 60, 5_959);
     assert_eq!((posted.number, posted.index, posted.book.is_none()), (17, 0, true));
 }
 
@@ -324,7 +364,7 @@ fn replay_ends_at_what_is_no_whole_call() {
     let entry = entry([0, 0, 1, 1, 0, 2_000, 22_050, 22_000]).bytes();
     let deliver = [&[0, 12][..], &entry].concat();
     let calls = [&deliver[..], &deliver, &[0, 1, 9, 3, 2, 1, 0, 12, 3, 3]].concat();
-    let input = [&[0, 0, 0, 28][..], &one_active_point(), &[0, 0, 1, 0], &[0, 0, 11, 160], &calls].concat();
+    let input = [&[0, 0, 0, 28][..], &one_active_point(), &[0, 0, 1, 0], &[0, 0, 11, 164], &calls].concat();
     let nothing: String = (1..8).map(|place| format!("{place} 0 0 0 0 0 0 0 0\n")).collect();
     let totals = format!("totals 0 1\n0 3200000 3200000 0 0 0 0 960000000 0\n{nothing}");
     let expected = format!("open 0\ndeliver 0\ndeliver 9\ndeliver 5\n{totals}close 0\ntake_back 8\n");
@@ -337,9 +377,9 @@ fn replay_tests_its_limits_in_order() {
     let input = |journal: usize, index: usize, closes: usize| [start(&file, journal, index), vec![2; closes]].concat();
     assert_eq!(replay::text(&input(786_433, 32_769, 200_001)), "journal too long\n");
     assert_eq!(replay::text(&input(0, 32_769, 200_001)), "index too long\n");
-    assert_eq!(replay::text(&input(0, 2_975, 200_001)), "answers too long\n", "before the file is opened");
-    assert_eq!(replay::text(&input(0, 2_975, 200_000)), "open 17\n");
-    assert_eq!(replay::text(&input(0, 2_976, 1)), "open 0\nclose 0\n");
+    assert_eq!(replay::text(&input(0, 2_979, 200_001)), "answers too long\n", "before the file is opened");
+    assert_eq!(replay::text(&input(0, 2_979, 200_000)), "open 17\n");
+    assert_eq!(replay::text(&input(0, 2_980, 1)), "open 0\nclose 0\n");
     assert_eq!(replay::text(&input(0, 32_768, 0)), "open 0\n");
     assert_eq!(replay::text(&input(0, 0, 0)[..39]), "input too short\n");
     assert_eq!(replay::text(&input(0, 0, 0)[..40]), "open 17\n");
