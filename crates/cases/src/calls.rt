@@ -2,6 +2,7 @@
 use crate::commands::BYTES;
 use crate::commands::Command;
 use crate::fields::pack;
+use crate::places::DESK_PLACES;
 use crate::places::copied_places;
 use crate::places::same_places;
 use book::Book;
@@ -21,7 +22,7 @@ pub(crate) fn ask(
     command: Command,
     file: &[u8; 256],
     journal: &mut [u8; 60],
-    index: &mut [u16; 24_000],
+    index: &mut [u16; DESK_PLACES],
     sizes: &[usize; 3],
 ) -> Book {
     let name = command.name;

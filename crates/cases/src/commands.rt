@@ -8,6 +8,7 @@ use crate::files::ask_post;
 use crate::files::ask_write;
 use crate::forge::forge;
 use crate::forge::no_book;
+use crate::places::DESK_PLACES;
 use crate::places::no_index;
 use crate::places::set_index;
 use crate::words::skip;
@@ -86,7 +87,7 @@ pub fn run(letters: &[u8]) {
     let mut first_file = no_file();
     let mut first_journal = no_journal();
     let mut first_index = no_index();
-    let mut first_sizes = [0usize, 60, 24_000];
+    let mut first_sizes = [0usize, 60, DESK_PLACES];
     let mut book = first_book;
     let mut file = first_file;
     let mut journal = first_journal;
@@ -171,7 +172,7 @@ fn obey(
     command: Command,
     file: &mut [u8; 256],
     journal: &mut [u8; 60],
-    index: &mut [u16; 24_000],
+    index: &mut [u16; DESK_PLACES],
     sizes: &[usize; 3],
 ) -> Book {
     let name = command.name;

@@ -2,6 +2,7 @@
 use crate::calls::copied;
 use crate::calls::least;
 use crate::calls::same_bytes;
+use crate::places::DESK_PLACES;
 use crate::places::copied_places;
 use crate::places::same_places;
 use book::Book;
@@ -15,7 +16,7 @@ use writing::write;
 pub(crate) fn ask_post(
     file: &[u8],
     journal: &mut [u8; 60],
-    index: &mut [u16; 24_000],
+    index: &mut [u16; DESK_PLACES],
     sizes: &[usize; 3],
 ) -> Book {
     let before = copied(journal);

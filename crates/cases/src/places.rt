@@ -7,14 +7,17 @@ use crate::commands::PLACES;
 use case_lines::show_index;
 use case_lines::text;
 
+// The places of the desk's index: 180 more than nine points need, one point more than a book can have.
+pub(crate) const DESK_PLACES: usize = 27_000;
+
 // Zeros, as a function: see `no_file`.
-pub(crate) fn no_index() -> [u16; 24_000] {
-    [0; 24_000]
+pub(crate) fn no_index() -> [u16; DESK_PLACES] {
+    [0; DESK_PLACES]
 }
 
 // A place of the index, or one number all over; all places shown; how many of them are lent. Other commands
 // change nothing here.
-pub(crate) fn set_index(command: Command, index: &mut [u16; 24_000], sizes: &mut [usize; 3]) {
+pub(crate) fn set_index(command: Command, index: &mut [u16; DESK_PLACES], sizes: &mut [usize; 3]) {
     let name = command.name;
     let row = command.row;
     match name {
@@ -45,17 +48,17 @@ fn paint(index: &mut [u16], value: u16) {
     }
 }
 
-pub(crate) fn copied_places(index: &[u16; 24_000]) -> [u16; 24_000] {
+pub(crate) fn copied_places(index: &[u16; DESK_PLACES]) -> [u16; DESK_PLACES] {
     let mut copy = no_index();
-    for i in 0..24_000 {
+    for i in 0..DESK_PLACES {
         copy[i] = index[i];
     }
     copy
 }
 
-pub(crate) fn same_places(a: &[u16; 24_000], b: &[u16; 24_000]) -> bool {
+pub(crate) fn same_places(a: &[u16; DESK_PLACES], b: &[u16; DESK_PLACES]) -> bool {
     let mut same = true;
-    for i in 0..24_000 {
+    for i in 0..DESK_PLACES {
         same = same & (a[i] == b[i]);
     }
     same

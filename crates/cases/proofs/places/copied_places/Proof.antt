@@ -8,7 +8,7 @@ abbrev Inv-loop : tie.InvT-loop
 Inv-loop index copy₀ i₀ copy i = Unit
 
 abbrev μ-loop : tie.MeasureT-loop
-μ-loop index copy₀ i₀ copy i = 24000 - i
+μ-loop index copy₀ i₀ copy i = 27000 - i
 
 no-index-requires : tie.Need-no-index-requires Inv-loop μ-loop
 no-index-requires c κs = search needs
