@@ -164,6 +164,8 @@ fn months() {
     month(2000, 2);
     month(2020, 12);
     month(2021, 4);
+    month(2024, 3);
+    month(2024, 10);
     month(2021, 0);
     month(2021, 13);
 }

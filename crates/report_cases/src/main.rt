@@ -1,5 +1,6 @@
-// Runs the statement on cases of document 01 that its example does not show: each refusal that the
-// program can print, months of each length, the rounding of amounts, their total, and the largest file and one entry more.
+// Runs the statement on cases of document 01 that its example does not show: each refusal that the program can
+// print, months of each length, clock changes, the rounding of amounts, their total, and the largest file and one
+// entry more.
 //
 // A case is a line with its label, and the text that the program would print. The file `stdout` has the
 // answers; docs/report_cases.md says where they come from.
@@ -20,6 +21,7 @@ fn main() {
     show_points();
     show_entries();
     show_months();
+    show_clock_changes();
     show(b"799,999 and 800,000", &HALF_RAPPEN);
     show(b"half a rappen twice", &TWO_HALVES);
     show_largest();
@@ -110,6 +112,22 @@ fn show_months() {
 fn show_month(third: u8, fourth: u8) {
     let mut file = EMPTY_MONTH;
     show_changed(b"a month", &mut file, 2, third, fourth);
+}
+
+// The last quarter of March and of October, and the first behind each.
+fn show_clock_changes() {
+    show_clock_change(b"March, quarter 2,971", 0x83, 0x36);
+    show_clock_change(b"March, quarter 2,972", 0x83, 0x38);
+    show_clock_change(b"October, quarter 2,979", 0x8a, 0x46);
+    show_clock_change(b"October, quarter 2,980", 0x8a, 0x48);
+}
+
+// The example in another month of 2024, whose fourth byte holds the month, with its first entry in a quarter whose
+// last bits the entry's second byte holds.
+fn show_clock_change(label: &[u8], fourth: u8, second: u8) {
+    let mut file = EXAMPLE;
+    file[3] = fourth;
+    show_changed(label, &mut file, 49, 0x17, second);
 }
 
 // The largest file, one byte more, and one entry more.
