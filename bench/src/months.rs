@@ -6,7 +6,8 @@ use oracle::right_files::{active, entry, right_entry, semi_active};
 const SEED: u64 = 20_240_101;
 const POINTS: i64 = 8;
 const YEAR: i64 = 2024;
-const MONTH: i64 = 1;
+/// October, the longest month.
+const MONTH: i64 = 10;
 
 /// Prime to the count of keys, so that neighbours in the file are far apart in the month.
 const STRIDE: i64 = 7_919;

@@ -6,8 +6,8 @@ use bench::book::post;
 use bench::months::{largest, MOST};
 use oracle::month_file::ENTRY_SIZE;
 
-/// The debit of a point at its largest: 2,976 quarters of 1,000,000 kvarh at 100,000 + 100,000.
-const DEBIT: i64 = 2_976 * 1_600_000_000 * 200_000;
+/// The debit of a point at its largest: 2,980 quarters of 1,000,000 kvarh at 100,000 + 100,000.
+const DEBIT: i64 = 2_980 * 1_600_000_000 * 200_000;
 
 /// Eight points, so that each figure is at its largest at one of them; and a single point, where the debit of
 /// all entries would pass 64 bits and that of those that stand does not.

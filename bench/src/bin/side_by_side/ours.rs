@@ -1,11 +1,11 @@
 //! The call of the archive `reactive` that posts a file and gives its totals.
-use oracle::book::{Figures, PLACES};
+use oracle::book::{Figures, PLACES, POINT_PLACES};
 
 /// Bytes of an answer: number, length of the journal's list, and the figures of 8 places.
 pub const ANSWER_SIZE: usize = 8 * (2 + 8 * PLACES);
 
-/// Places of an index for the most points: "2,976 places for each point" (02, Ticket 6).
-const INDEX_PLACES: usize = 2_976 * PLACES;
+/// Places of an index for the most points (02, Tickets 6 and 7).
+const INDEX_PLACES: usize = POINT_PLACES * PLACES;
 
 /// What is lent to the library for a book.
 pub struct Lent {
