@@ -122,8 +122,8 @@ fn show_clock_changes() {
     show_clock_change(b"October, quarter 2,980", 0x8a, 0x48);
 }
 
-// The example in another month of 2024, whose fourth byte holds the month, with its first entry in a quarter whose
-// last bits the entry's second byte holds.
+// The example in another month of 2024, by the file's fourth byte; its first entry is in quarter 2,944 and half of
+// `second` more.
 fn show_clock_change(label: &[u8], fourth: u8, second: u8) {
     let mut file = EXAMPLE;
     file[3] = fourth;
