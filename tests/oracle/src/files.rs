@@ -163,10 +163,7 @@ fn clock_changes() -> Vec<Vec<u8>> {
     let mut files = Vec::new();
     for month in [3, 10] {
         files.push(month_ends(month).bytes());
-        for quarter in 2_970..2_982 {
-            let entries = vec![entry([0, quarter, 1, 1, 0, 1_000, 22_050, 22_000])];
-            files.push(File::new(2024, month, vec![active(0, 300, 1_000, 500)], entries).bytes());
-        }
+        files.extend((2_970..2_982).map(|quarter| one_quarter(month, quarter).bytes()));
     }
     files
 }

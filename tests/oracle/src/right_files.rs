@@ -55,6 +55,12 @@ pub fn one_point(count: i64) -> File {
     File::new(2024, 1, vec![active(0, 300, 1_000, 500)], (0..count).map(made).collect())
 }
 
+/// A month of 2024 at one point, with 1,000 kvarh supplied in one quarter, paid at a tariff of 300.
+pub fn one_quarter(month: i64, quarter: i64) -> File {
+    let supplied = entry([0, quarter, 1, 1, 0, 1_000, 22_050, 22_000]);
+    File::new(2024, month, vec![active(0, 300, 1_000, 500)], vec![supplied])
+}
+
 /// A month of 2024 at eight points: the first four quarters of each and the last four, each with an energy of its own.
 pub fn month_ends(month: i64) -> File {
     let past = quarters(2024, month);

@@ -12,7 +12,7 @@ use oracle::quarter::{c_call, Quarter, Shares};
 use oracle::random::Random;
 use oracle::replay;
 use oracle::right_files::{
-    active, eight_billed, entry, example, month_ends, one_point, right_file, semi_active, two_halves,
+    active, eight_billed, entry, example, month_ends, one_point, one_quarter, right_file, semi_active, two_halves,
 };
 use oracle::statement::{rappen, text};
 
@@ -144,18 +144,15 @@ fn clocks_change_in_march_and_october() {
     assert_eq!([2020, 2024, 2099].map(|year| quarters(year, 10)), [2_980; 3]);
     // Supplied at U 22050 < S + 100: paid, 1,000 · 1,600 grains, at 300 that is 300 rappen.
     let figures = "1600000 1600000 0 0 0 0 300 0";
-    let file = |month: i64, quarter: i64| {
-        let entries = vec![entry([0, quarter, 1, 1, 0, 1_000, 22_050, 22_000])];
-        File::new(2024, month, vec![active(0, 300, 1_000, 500)], entries).bytes()
-    };
+    let printed = |month: i64, quarter: i64| text(&one_quarter(month, quarter).bytes());
     let march = format!("2024-03 2972 1\n0 {figures}\ntotal {figures}\n");
-    assert_eq!(text(&file(3, 2_971)), march);
-    assert_eq!(text(&file(3, 2_972)), "refused 6\n");
+    assert_eq!(printed(3, 2_971), march);
+    assert_eq!(printed(3, 2_972), "refused 6\n");
     let october = format!("2024-10 2980 1\n0 {figures}\ntotal {figures}\n");
     for quarter in 2_976..2_980 {
-        assert_eq!(text(&file(10, quarter)), october, "quarter {quarter}");
+        assert_eq!(printed(10, quarter), october, "quarter {quarter}");
     }
-    assert_eq!(text(&file(10, 2_980)), "refused 6\n");
+    assert_eq!(printed(10, 2_980), "refused 6\n");
 }
 
 #[test]
