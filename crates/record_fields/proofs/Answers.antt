@@ -48,12 +48,15 @@ module _ {R A G : Type 0} (k : Kind R) (read : R → A) (refused : A) (given : A
   inside true false x = refl
   inside false b x = refl
 
+  -- what is given of an answer is what the definitions give of the bytes
+  pub given-decoded : (bytes : List ℕ) → given (decoded k read refused bytes) ≡ decoded k (λ x. given (read x)) (given refused) bytes
+  given-decoded bytes =
+      let vs = fieldsAt bytes 0 (k .widths) in
+      inside (eqb (length bytes) (k .size)) (k .fixed vs && k .inRange (k .of vs)) (k .of vs)
+
   pub answered : ((a b : A) → given a ≡ given b → a ≡ b)
       → (r : A) (bytes : List ℕ) → given r ≡ decoded k (λ x. given (read x)) (given refused) bytes → r ≡ decoded k read refused bytes
-  answered same r bytes e =
-      let vs = fieldsAt bytes 0 (k .widths) in
-      same r (decoded k read refused bytes)
-      (e ∙ sym (inside (eqb (length bytes) (k .size)) (k .fixed vs && k .inRange (k .of vs)) (k .of vs)))
+  answered same r bytes e = same r (decoded k read refused bytes) (e ∙ sym (given-decoded bytes))
 
 -- An encoder's answer; where it writes, what the test says gives what writing asks.
 module _ {R : Type 0} (k : Kind R) (x : R) (bytes : List ℕ) {good : Bool} (eg : good ≡ k .inRange x) where
