@@ -13,9 +13,12 @@ use Rattle.worth.specs.Worth.{worthHeld}
 use Rattle.journal.specs.declared.StandingEntry.{StandingEntry}
 use Rattle.journal.specs.declared.StandingEntry.the-variants.{Found, Nothing}
 
--- what an entry is worth, in a book with these points
+-- what an entry is worth at a point, and in a book with these points
+abbrev pub worthAtPoint : Point → Entry → Figures
+worthAtPoint p e = worthHeld p (p .tariffs) (e .metered)
+
 abbrev pub worthAmong : List Point → Entry → Figures
-worthAmong ps e = let p = getD ps (e .point) noPoint in worthHeld p (p .tariffs) (e .metered)
+worthAmong ps e = worthAtPoint (getD ps (e .point) noPoint) e
 
 -- what the entry that stands is worth; nothing where none does
 unfoldable pub worthStanding : List Point → StandingEntry → Figures

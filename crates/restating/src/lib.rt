@@ -6,7 +6,7 @@ use point_record::Point;
 use worth::Figures;
 ghost use mathlib.Core.Path.{_≡_};
 ghost use Prim.Native.Nat.{_<_};
-ghost use Rattle.restating.specs.Steps.{worthAmong, worthStanding, Placed, exchangedAt};
+ghost use Rattle.restating.specs.Steps.{worthAtPoint, worthAmong, worthStanding, Placed, exchangedAt};
 
 // The totals with one entry's figures added to those of a point, and another's taken away: the one that
 // stands now comes in, and the one that stood before goes out.
@@ -27,14 +27,21 @@ pub fn restated(
     exchange(totals, point, added, removed)
 }
 
-// What an entry is worth to its point.
+// What an entry is worth to its point, one of these.
 fn worth_in(points: [Point; 8], entry: Entry) -> Figures
     requires { ⌜ entry .point < 8 ⌝ }
     ensures { λ r. ⌜ r ≡ worthAmong points entry ⌝ }
 {
     let at = entry.point as usize;
-    let metered = entry.metered;
     let point = points[at];
+    worth_of(point, entry)
+}
+
+// What an entry is worth at this point.
+pub fn worth_of(point: Point, entry: Entry) -> Figures
+    ensures { λ r. ⌜ r ≡ worthAtPoint point entry ⌝ }
+{
+    let metered = entry.metered;
     Figures::of(point, point.tariffs, metered)
 }
 

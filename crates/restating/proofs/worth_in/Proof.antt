@@ -14,12 +14,12 @@ mul-point c = search needs
 array-copy-out-point : tie.Need-array-copy-out-point
 array-copy-out-point c = search needs
 
-of-requires : tie.Need-of-requires
-of-requires c κs = search needs
+worth-of-requires : tie.Need-worth-of-requires
+worth-of-requires c κs = search needs
 
 returns : tie.Need-returns
 unfolding noPoint levelOf
-returns c = c .of .ensures
+returns c = c .worth-of .ensures
 
 pub worth-in-spec : {M : Type 1} → statement M
-worth-in-spec = tie.close (tie.spec cast-at mul-point array-copy-out-point of-requires returns)
+worth-in-spec = tie.close (tie.spec cast-at mul-point array-copy-out-point worth-of-requires returns)
