@@ -1,2 +1,1 @@
 pub mod Audit
-pub mod Steps

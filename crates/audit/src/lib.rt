@@ -1,11 +1,9 @@
-// A journal judged, without a book: how many entries it can hold, which version supersedes another, and what
+// A journal judged, without a book: how many entries it can hold, whether stored totals are the sums, and what
 // number 7 of document 01 asks for, as definitions.
 mod comparing;
-mod entering;
 mod room;
 
 pub use comparing::are_equal;
-pub use entering::supersedes;
 pub use room::capacity;
 use worth::Figures;
 
