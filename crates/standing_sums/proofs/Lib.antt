@@ -1,0 +1,4 @@
+pub mod Adding
+mod Chosen
+mod Lawful
+pub mod Named
