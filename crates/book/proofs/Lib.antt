@@ -1,6 +1,5 @@
-mod Alike
 mod Closing
-mod Deliveries
+pub mod Deliveries
 pub mod Numbers
 mod Replies
 pub mod Sound

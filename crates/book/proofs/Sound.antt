@@ -3,20 +3,18 @@
 use Prim.Native.Nat.{_≤_}
 use mathlib.Core.Path.{_≡_, refl, sym, ap, ap₂, _∙_}
 use mathlib.Core.Bool.{Bool, true, false, cond, not, _&&_, _||_}
-use borrow.Author.Tests.{ltb-false, le-ltb, not-false}
+use borrow.Author.Tests.{not-false}
 use lib.ListN.{length}
-use Rattle.calendar.specs.Calendar.{quartersOf}
 use Rattle.index.specs.Index.{shortIndex}
-use Rattle.index.proofs.Comparing as Comparing
 use Rattle.refusals.proofs.Tests.{neither, not-not}
 use Rattle.machine.specs.Machine.{capacityOf, totalsIn}
 use Rattle.audit.specs.declared.Afresh.{Afresh}
-use Rattle.master_data.specs.Master.{frameOf, wrongMonth, wrongPoint}
-use Rattle.audit.specs.Audit.{tooLong, anyStopped, wrongIndex, unlawful, noSums, afresh, allSame, wrongTotals}
+use Rattle.master_data.specs.Master.{frameOf}
+use Rattle.audit.specs.Audit.{anyStopped, unlawful, noSums, afresh, allSame, wrongTotals}
 use Rattle.audit.proofs.Equal.{all-same, all-self}
+use Rattle.audit.proofs.Lawful.{Lawful, lawful, long-enough, not-unlawful}
 use Rattle.master_data.proofs.Ranged.{Ranged}
 use Rattle.walk.specs.Walk.{indexTo}
-use Rattle.walk.proofs.Noted.{Noted}
 use Rattle.book.specs.declared.Book.{Book}
 use Rattle.book.specs.Library.{Lent, view, unsound}
 
@@ -30,45 +28,26 @@ pub record Sound (b : Book) (l : Lent) : Type 0 where
 
 -- a book that is not unsound has these facts, if the index is not too short
 pub sound : (b : Book) (l : Lent) → shortIndex (b .master .count) (l .index) ≡ false → unsound b l ≡ false → Sound b l
-unfolding unsound unlawful tooLong wrongTotals wrongIndex
+unfolding unsound wrongTotals
 sound b l long h =
-    let m = b .master in
     let t = neither _ (wrongTotals (b .master) (b .length) (l .journal) (b .totals)) h in
-    let x = neither _ (wrongIndex (b .master) (b .length) (l .journal) (l .index)) (t .0) in
-    let e = neither _ (anyStopped (frameOf (b .master)) (b .length) (l .journal)) (x .0) in
-    let s = neither _ (tooLong (b .length) (l .journal)) (e .0) in
-    let p = neither (wrongMonth (b .master)) (wrongPoint (b .master)) (s .0) in
-    record {
-      ranged = record { month = p .0; point = p .1 };
-      short = ltb-false _ _ (s .1);
-      entries = e .1;
-      totals = all-same _ _ (not-false _ (t .1));
-      index =
-          Comparing.says (m .count) (quartersOf (m .year) (m .month)) (b .length) (l .journal) (l .index)
-          (Comparing.long-enough (m .count) (l .index) long) (x .1);
-    }
+    let k = lawful (b .master) (b .length) (l .journal) (l .index) long (t .0) in
+    record { ranged = k .ranged; short = k .short; entries = k .entries; totals = all-same _ _ (not-false _ (t .1)); index = k .index }
 
--- the index of a book that has them says what stands in L
-pub noted : {b : Book} {l : Lent} → Sound b l → Noted (b .master) (b .length) (l .journal) (l .index) (l .index)
-noted {b} {l} s =
-    let m = b .master in
-    record {
-      long = Comparing.said-long (m .count) (quartersOf (m .year) (m .month)) (b .length) (l .journal) (l .index) (s .index);
-      says = s .index;
-    }
+-- the journal and the index of a book that has them are lawful
+pub journal-lawful : {b : Book} {l : Lent} → Sound b l → Lawful (b .master) (b .length) (l .journal) (l .index)
+journal-lawful s = record { ranged = s .ranged; short = s .short; entries = s .entries; index = s .index }
 
--- it is not too short
+-- the index is not too short
 pub not-short : {b : Book} {l : Lent} → Sound b l → shortIndex (b .master .count) (l .index) ≡ false
-not-short {b} {l} s = Comparing.not-short (b .master .count) (l .index) (noted s .long)
+not-short s = long-enough _ _ _ _ (journal-lawful s)
 
 -- and the book is not unsound
 pub not-unsound : {b : Book} {l : Lent} → Sound b l → unsound b l ≡ false
-unfolding unsound unlawful tooLong wrongTotals wrongIndex
+unfolding unsound wrongTotals
 not-unsound {b} {l} s =
-    let m = b .master in
     let t : allSame (b .totals) (totalsIn (view b l)) ≡ true = ap (allSame (b .totals)) (sym (s .totals)) ∙ all-self (b .totals) in
-    let x = Comparing.said (m .count) (quartersOf (m .year) (m .month)) (b .length) (l .journal) (l .index) (s .index) in
-    rw (s .ranged .month, s .ranged .point, le-ltb _ _ (s .short), s .entries, x, t)
+    rw (not-unlawful (b .master) (b .length) (l .journal) (l .index) (journal-lawful s), t)
 
 -- the test of the sums afresh
 pub judged : (b : Book) (l : Lent) (r : Afresh) (equal : Bool) → r ≡ afresh (b .master) (b .length) (l .journal) (l .index)

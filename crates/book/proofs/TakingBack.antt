@@ -32,14 +32,15 @@ use Rattle.audit.proofs.OneEntry.{same, outside-read, totals-back}
 use Rattle.audit.proofs.Placed.{entries-room}
 use Rattle.machine.specs.Machine.{totalsOf}
 use Rattle.walk.proofs.Noted.{Noted, has-place, noted-less}
+use Rattle.filing.proofs.Alike.{alike-before}
+use Rattle.filing.proofs.Deliveries.{noted}
 use Rattle.book.specs.declared.Book.{Book}
 use Rattle.book.specs.declared.Reply.{Reply}
 use Rattle.book.specs.Library.{Lent, lent, view, withLength, withTotals, unposted, outcome, called}
 use Rattle.book.specs.Steps.{reply, restatedHeld}
 use Rattle.book.proofs.Numbers.{sound-refused, sound-accepted}
 use Rattle.book.proofs.Replies.{replied}
-use Rattle.book.proofs.Alike.{alike-before}
-use Rattle.book.proofs.Sound.{Sound, noted}
+use Rattle.book.proofs.Sound.{Sound, journal-lawful}
 
 -- A sound book, and the answer that the code's tests of 8 and 11 give.
 pub record Answered (b : Book) (l : Lent) (a : Answer) : Type 0 where
@@ -98,7 +99,7 @@ module _ {b : Book} {l : Lent} {a : Answer} (k : Answered b l a) where
 
       -- the index says what stands among the entries, counted up to it
       says : Noted (b .master) (suc (b .length - 1)) (l .journal) (l .index) (l .index)
-      says = subst (λ (n : ℕ). Noted (b .master) n (l .journal) (l .index) (l .index)) (sym last) (noted (k .sound))
+      says = subst (λ (n : ℕ). Noted (b .master) n (l .journal) (l .index) (l .index)) (sym last) (noted (journal-lawful (k .sound)))
 
       module _ (place : ℕ) (own : place ≡ keyPlace (e .point) (e .quarter)) where
         -- its place is one of the index's
