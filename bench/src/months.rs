@@ -4,7 +4,6 @@ use oracle::random::Random;
 use oracle::right_files::{active, entry, right_entry, semi_active};
 
 const SEED: u64 = 20_240_101;
-const POINTS: i64 = 8;
 const YEAR: i64 = 2024;
 /// October, the longest month.
 const MONTH: i64 = 10;
@@ -12,22 +11,27 @@ const MONTH: i64 = 10;
 /// Prime to the count of keys, so that neighbours in the file are far apart in the month.
 const STRIDE: i64 = 7_919;
 
-/// How many entries fit the longest input that the program takes.
-pub const FULLEST: i64 = ((65_536 - HEADER_SIZE - POINT_SIZE * POINTS as usize) / ENTRY_SIZE) as i64;
+/// Bytes of the longest input that the program takes.
+const LONGEST: usize = 65_536;
 
 /// The most entries that a header can count.
 pub const MOST: i64 = 65_535;
 
-/// A file of 8 points and so many entries.
-pub fn month(count: i64) -> Vec<u8> {
+/// How many entries a full file of so many points has: as many as fit the longest input.
+pub const fn fullest(points: i64) -> i64 {
+    ((LONGEST - HEADER_SIZE - POINT_SIZE * points as usize) / ENTRY_SIZE) as i64
+}
+
+/// A file of so many points, at most 8, and so many entries.
+pub fn month(points: i64, count: i64) -> Vec<u8> {
     let mut random = Random::of(SEED, count as u64);
-    let points: Vec<Point> = (0..POINTS).map(point).collect();
+    let records: Vec<Point> = (0..points).map(point).collect();
     let mut entries = Vec::new();
     for index in 0..count {
-        let [point, quarter, version] = key_and_version(index, POINTS);
-        entries.push(right_entry(&mut random, &points, point, quarter, version));
+        let [point, quarter, version] = key_and_version(index, points);
+        entries.push(right_entry(&mut random, &records, point, quarter, version));
     }
-    File::new(YEAR, MONTH, points, entries).bytes()
+    File::new(YEAR, MONTH, records, entries).bytes()
 }
 
 /// A file of so many points, at most 8, and the most entries, each with figures as large as they can be.

@@ -3,11 +3,11 @@ use bench::statement::text;
 use std::io::{self, Read, Write};
 
 /// One byte more than a month file may have: that many show that it is too long.
-const MOST: u64 = 65_537;
+const MOST: usize = 65_537;
 
 /// Reads all, and prints the text.
 fn main() -> io::Result<()> {
-    let mut input = Vec::new();
-    io::stdin().lock().take(MOST).read_to_end(&mut input)?;
+    let mut input = Vec::with_capacity(MOST);
+    io::stdin().lock().take(MOST as u64).read_to_end(&mut input)?;
     io::stdout().lock().write_all(text(&input).as_bytes())
 }

@@ -28,8 +28,9 @@ fn compare_totals(file: &[u8]) {
     let mut answer = [0; ours::ANSWER_SIZE];
     let number = ours::post_totals(file, &mut lent, 1, &mut answer);
     assert_eq!(number, 0, "the library refuses the largest file");
-    let book = post(file, lent.journal.len()).expect("plain Rust takes the file");
-    let totals = book.totals().expect("the stored sums are right");
+    let Lent { journal, index } = &mut lent;
+    let book = post(file, journal, index).expect("plain Rust takes the file");
+    let totals = book.totals(journal, index).expect("the stored sums are right");
     assert_eq!(ours::numbers(&answer), ours::expected(MOST as usize, &totals), "the largest totals differ");
     assert_eq!(totals[0][7], DEBIT, "the debit of the first point");
 }
@@ -39,6 +40,6 @@ fn compare_refusal(file: &[u8]) {
     let mut lent = Lent::of(ENTRY_SIZE * MOST as usize - 1);
     let mut answer = [0; ours::ANSWER_SIZE];
     let number = ours::post_totals(file, &mut lent, 0, &mut answer);
-    assert_eq!(Some(number), post(file, lent.journal.len()).err(), "the refusals differ");
+    assert_eq!(Some(number), post(file, &mut lent.journal, &mut lent.index).err(), "the refusals differ");
     assert_eq!(number, 10, "a full journal");
 }

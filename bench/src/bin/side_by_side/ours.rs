@@ -1,5 +1,6 @@
 //! The call of the archive `reactive` that posts a file and gives its totals.
-use oracle::book::{Figures, PLACES, POINT_PLACES};
+use bench::book::Sums;
+use oracle::book::{PLACES, POINT_PLACES};
 
 /// Bytes of an answer: number, length of the journal's list, and the figures of 8 places.
 pub const ANSWER_SIZE: usize = 8 * (2 + 8 * PLACES);
@@ -7,10 +8,10 @@ pub const ANSWER_SIZE: usize = 8 * (2 + 8 * PLACES);
 /// Places of an index for the most points (02, Tickets 6 and 7).
 const INDEX_PLACES: usize = POINT_PLACES * PLACES;
 
-/// What is lent to the library for a book.
+/// What is lent to either side for a book.
 pub struct Lent {
     pub journal: Vec<u8>,
-    index: Vec<u16>,
+    pub index: Vec<u16>,
 }
 
 impl Lent {
@@ -60,6 +61,6 @@ pub fn numbers(answer: &[u8]) -> Vec<i64> {
 }
 
 /// The same numbers as plain Rust has them.
-pub fn expected(length: usize, totals: &[Figures; PLACES]) -> Vec<i64> {
+pub fn expected(length: usize, totals: &Sums) -> Vec<i64> {
     [0, length as i64].into_iter().chain(totals.concat()).collect()
 }

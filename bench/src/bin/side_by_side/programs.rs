@@ -1,21 +1,30 @@
-//! The statement of the fullest month file, by the program and by plain Rust, each a whole process.
-use crate::clock::{median, timed};
-use crate::table;
-use bench::months::{month, FULLEST};
+//! The statement of full month files, by the program and by plain Rust, each a whole process.
+use crate::clock::{least, timed};
+use crate::limits::STATEMENT;
+use crate::table::{file_of, Table};
+use bench::months::{fullest, month};
 use oracle::trial::target;
 use std::env;
 use std::fs::{self, File};
 use std::path::Path;
 use std::process::{Command, Stdio};
 
-const RUNS: usize = 25;
+/// Many, since most of a time is the start of a process, which varies.
+const RUNS: usize = 400;
 
-/// Measures both programs on the same file, in turns; each must print what the oracle does. Gives the ratio.
-pub fn measure() -> f64 {
+/// Measures both programs on full files of 1, 3 and 8 points.
+pub fn measure(table: &mut Table) {
+    for points in [1, 3, 8] {
+        measure_file(table, points);
+    }
+}
+
+/// Measures both programs on a file, in turns; each must print what the oracle does.
+fn measure_file(table: &mut Table, points: i64) {
     let rust = env::current_exe().expect("this program has a path").with_file_name("plain_statement");
-    let input = rust.with_file_name("fullest.month");
+    let input = rust.with_file_name("full.month");
     let ours = target().join("bin/statement");
-    let bytes = month(FULLEST);
+    let bytes = month(points, fullest(points));
     fs::write(&input, &bytes).expect("the input is written");
     let expected = oracle::statement::text(&bytes);
     let (mut times_of_ours, mut times_of_rust) = (Vec::new(), Vec::new());
@@ -27,14 +36,8 @@ pub fn measure() -> f64 {
         assert_eq!(printed, expected, "the statement of plain Rust differs");
         times_of_rust.push(time);
     }
-    let what = format!(
-        "statement, whole process: {} bytes, {} entries",
-        table::grouped(bytes.len() as u64),
-        table::grouped(FULLEST as u64)
-    );
-    let (ours, rust) = (median(times_of_ours), median(times_of_rust));
-    table::times(ours, rust, &what);
-    ours / rust
+    let what = format!("statement, whole process, {}", file_of(points, fullest(points)));
+    table.times(STATEMENT, least(&times_of_ours), least(&times_of_rust), &what);
 }
 
 /// What a program prints for a file as its standard input.
