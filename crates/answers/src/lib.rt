@@ -1,9 +1,11 @@
 // What calls answer, and the number of each answer in documents 01 and 02.
+#![tactic(auto)]
+
 ghost use Rattle.std.specs.Prelude.{◌≡◌};
 ghost use Rattle.answers.specs.Numbers.{number_of};
 
 // The answer of a call: accepted, or one of 01's refusals, or 02's.
-#[derive(Drop)]
+#[derive(Clone, Copy)]
 pub enum Answer {
     Accepted,
     TooShort,

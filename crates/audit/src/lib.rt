@@ -1,5 +1,7 @@
 // A journal judged, without a book: how many entries it can hold, whether stored totals are the sums, and what
 // number 7 of document 01 asks for, as definitions.
+#![tactic(auto)]
+
 mod comparing;
 mod room;
 
@@ -9,7 +11,7 @@ use worth::Figures;
 
 // Whether master data, journal and index are such as calls can have left, and then the totals summed from the
 // journal; else every total is 0.
-#[derive(Drop)]
+#[derive(Clone, Copy)]
 pub struct Afresh {
     pub lawful: bool,
     pub totals: [Figures; 8],

@@ -3,6 +3,8 @@
 // it lies in then fit one `u64`. Numbers of 64 bits go into whole bytes, by `put_words`.
 //
 // The contracts cite `specs/Fields.antt`; `proofs/Laws.antt` has the laws of reading after writing.
+#![tactic(auto)]
+
 ghost use Rattle.std.specs.Prelude.{◌≡◌, ◌+◌, ◌-◌, ◌*◌, ◌%◌, ◌^◌, ◌≤◌, ◌<◌, length};
 ghost use Rattle.std.proofs.Math.Seq.{paste};
 ghost use Rattle.bits.specs.Fields.{field, stored, bytes as bytes_of, with_words};
@@ -10,7 +12,7 @@ ghost use Rattle.bits.specs.Place.{Covers};
 
 // The bytes that a field lies in, `count` of them from index `first` on, and how many of their bits
 // stand before and after the field.
-#[derive(Drop)]
+#[derive(Clone, Copy)]
 struct Span {
     first: usize,
     count: usize,

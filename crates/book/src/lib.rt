@@ -2,6 +2,8 @@
 //
 // A book is a value: a call takes it, with the journal that its entries lie in and the index that says which of
 // them stand, and hands it back. `specs/Library.antt` says what each call does to book, journal and index.
+#![tactic(auto)]
+
 mod calls;
 mod judgement;
 
@@ -11,7 +13,7 @@ use master_data::MasterData;
 use worth::Figures;
 
 // The book. Its fields are public, and no call trusts them: each tests them against 01's number 7.
-#[derive(Drop)]
+#[derive(Clone, Copy)]
 pub struct Book {
     pub master: MasterData,
     pub length: usize,
@@ -20,7 +22,7 @@ pub struct Book {
 }
 
 // A book handed back, and the answer of the call that hands it back.
-#[derive(Drop)]
+#[derive(Clone, Copy)]
 pub struct Reply {
     pub book: Book,
     pub answer: Answer,
@@ -28,7 +30,7 @@ pub struct Reply {
 
 // What totals gives: the figures of each point and how many entries the journal has, all 0 beside a
 // refusal.
-#[derive(Drop)]
+#[derive(Clone, Copy)]
 pub struct Totals {
     pub answer: Answer,
     pub points: [Figures; 8],

@@ -6,6 +6,8 @@
 // stands `kept` where book, journal and index are as before, and `void` beside an opening that hands back the
 // void book and leaves the index. Totals has the length and, for each place that is not all 0, the place and
 // its eight figures. A command that is not understood prints `?`.
+#![tactic(auto)]
+
 use libc::{STDIN_FILENO, STDOUT_FILENO};
 
 fn main() {

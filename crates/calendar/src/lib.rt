@@ -1,4 +1,6 @@
 // The calendar: the length of a month in quarter-hours, document 01, "Month file", as 02, Ticket 7, amends it.
+#![tactic(auto)]
+
 ghost use Rattle.std.specs.Prelude.{◌≡◌, ◌≤◌};
 ghost use Rattle.calendar.specs.Calendar.{leap, days_of, quarters_of};
 

@@ -1,6 +1,8 @@
 // Answers as bytes: what totals gives, put into a slice.
 //
 // `specs/Answers.antt` says which numbers an answer is.
+#![tactic(auto)]
+
 ghost use Rattle.std.specs.Prelude.{◌≡◌, [], ◌∷◌, ◌+◌, ◌≤◌, length};
 ghost use Rattle.bits.specs.Fields.{with_words};
 ghost use Rattle.call_answers.specs.Answers.{columns, length_and_figures};

@@ -1,6 +1,8 @@
 // A list of calls as bytes: where each call ends, and what room its answer takes.
 //
 // `specs/Script.antt` says which calls a script holds.
+#![tactic(auto)]
+
 ghost use Rattle.std.specs.Prelude.{◌≡◌, ◌<◌, ◌≤◌, leb, length};
 ghost use Rattle.call_script.specs.Script.{delivery_size, size_at, call_at, calls};
 ghost use Rattle.call_script.specs.Room.{room, room_of};

@@ -1,5 +1,7 @@
 // What a case prints of a call, for the programs that run cases (docs/book_cases.md): words, the number answered,
 // whether a refused call has left all as it was, and figures. Every function prints, and hands back nothing.
+#![tactic(auto)]
+
 mod books;
 
 ghost use Rattle.std.specs.Prelude.{◌≤◌};

@@ -60,7 +60,7 @@ pub const INDEX: u64 = 0x696e646578;
 
 // A command: its name, where the name ends, the numbers, how many there are, and where they end. Numbers
 // that are left out are 0.
-#[derive(Drop)]
+#[derive(Clone, Copy)]
 pub struct Command {
     pub name: u64,
     pub named: usize,

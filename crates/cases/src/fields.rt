@@ -18,7 +18,7 @@ const WIDTHS: [usize; 52] = [
 ];
 
 // Which of the widths are those of a record: the first, and how many.
-#[derive(Drop)]
+#[derive(Clone, Copy)]
 pub(crate) struct Layout {
     pub first: usize,
     pub count: usize,

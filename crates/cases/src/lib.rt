@@ -1,4 +1,6 @@
 // Runs the library on the cases of a text, for the programs that read one (docs/book_cases.md has the language).
+#![tactic(auto)]
+
 mod buffers;
 mod calls;
 mod commands;

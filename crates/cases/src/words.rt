@@ -3,7 +3,7 @@ use std::num::wrapping_add_u64;
 
 // A word: its last seven letters as one number, the first of them highest; the decimal number that it is
 // if it is one; and where it ends. At the end of the text it has no letters.
-#[derive(Drop)]
+#[derive(Clone, Copy)]
 pub(crate) struct Word {
     pub letters: u64,
     pub value: u64,

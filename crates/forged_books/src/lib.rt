@@ -1,5 +1,7 @@
 // Books that no call has made, for the cases of number 7 (docs/book_cases.md). What is changed comes as a row of
 // numbers, as a command has them, each cut to what its field holds.
+#![tactic(auto)]
+
 ghost use Rattle.std.specs.Prelude.{◌≡◌};
 ghost use Rattle.forged_books.specs.Forged.{place_of, point_of, figures_of};
 ghost use Rattle.forged_books.specs.Forged.{with_month, with_point, with_figures, forged};

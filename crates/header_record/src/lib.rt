@@ -1,5 +1,7 @@
 // The header of a month file, 7 bytes; document 01, "Month file".
 // The decoder and the encoder undo each other, and both refuse a slice of any other length.
+#![tactic(auto)]
+
 ghost use Rattle.std.specs.Prelude.{◌≡◌};
 ghost use Rattle.record_fields.specs.Layout.{Small};
 ghost use Rattle.header_record.specs.Header.{header_widths, header_values, header_of};
@@ -19,7 +21,7 @@ const SECOND: u64 = OPENING[1] as u64;
 const WIDTHS: [usize; 6] = [8, 8, 12, 4, 4, 20];
 
 // The month, how many points the file has, and how many entries.
-#[derive(Drop)]
+#[derive(Clone, Copy)]
 pub struct Header {
     pub year: u16,
     pub month: u8,
@@ -28,7 +30,7 @@ pub struct Header {
 }
 
 // What the bytes of a header hold.
-#[derive(Drop)]
+#[derive(Clone, Copy)]
 pub enum HeaderAnswer {
     Read(Header),
     Refused,

@@ -1,5 +1,7 @@
 // An index of a journal: for each point and quarter the position plus one of the entry that stands, 0 for none,
 // in a slice of 16-bit numbers. `specs/Index.antt` says what each of its places holds.
+#![tactic(auto)]
+
 ghost use Rattle.std.specs.Prelude.{◌≡◌, false, not};
 ghost use Rattle.index.specs.Index.{places_of, key_place, short_index, cleared, differ};
 

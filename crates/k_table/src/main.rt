@@ -1,5 +1,7 @@
 // Prints the table of the factor K from the rule of 02, Ticket 3: the very text of the source file that has it,
 // `crates/basic_tariff/src/k_factors.rt`. Nothing of that table is read here. The test command compares the two.
+#![tactic(auto)]
+
 ghost use Rattle.std.specs.Prelude.{◌≡◌};
 ghost use Rattle.basic_tariff.specs.BasicTariff.{K};
 

@@ -1,6 +1,8 @@
 // Runs the conversion of the low side on the cases of a text, its standard input: six numbers each, those of the
 // call, with `#` before a comment. A line printed has the number answered, take and supply. The answers that are
 // due, in the file `stdout`, are those of the reader of the same text in tests/oracle.
+#![tactic(auto)]
+
 mod numbers;
 
 use libc::{STDIN_FILENO, STDOUT_FILENO};

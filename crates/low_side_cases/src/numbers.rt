@@ -2,7 +2,7 @@
 use std::num::{wrapping_add_u32, wrapping_sub_u32};
 
 // A number without its sign, its sign, and where it ends. It is not there where it begins at the end of the text.
-#[derive(Drop)]
+#[derive(Clone, Copy)]
 pub(crate) struct Number {
     pub size: u32,
     pub negative: bool,
@@ -11,7 +11,7 @@ pub(crate) struct Number {
 }
 
 // Six numbers, whether all are there, and where they end.
-#[derive(Drop)]
+#[derive(Clone, Copy)]
 pub(crate) struct Row {
     pub numbers: [Number; 6],
     pub found: bool,

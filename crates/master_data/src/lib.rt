@@ -1,5 +1,7 @@
 // The master data of a book: month and points, whether they are such as a file can have, and what is outside
 // them.
+#![tactic(auto)]
+
 ghost use Rattle.std.specs.Prelude.{◌≡◌, false, not, ◌||◌, ◌≤◌};
 ghost use Rattle.machine.specs.Machine.{outside};
 ghost use Rattle.master_data.specs.Master.{frame_of, wrong_month, wrong_point};
@@ -9,7 +11,7 @@ use header_record::{Header, header_in_range};
 use point_record::{Point, point_in_range};
 
 // The master data of a book: what the header and the points of its file say. No call changes them.
-#[derive(Drop)]
+#[derive(Clone, Copy)]
 pub struct MasterData {
     pub year: u16,
     pub month: u8,

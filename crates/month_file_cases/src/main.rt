@@ -4,6 +4,8 @@
 //
 // A sample's line has the values of its fields and the bytes that encode it again. A bound's line has
 // a field's place and width in bits, the value put there, and whether the record is then read.
+#![tactic(auto)]
+
 ghost use Rattle.std.specs.Prelude.{◌+◌, ◌^◌, ◌≤◌, ◌<◌};
 
 use bits::put;

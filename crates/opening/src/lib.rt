@@ -1,4 +1,6 @@
 // Opening a file: the fresh book of its header and points, and an index that says nothing yet.
+#![tactic(auto)]
+
 ghost use Rattle.std.specs.Prelude.{◌≡◌, true, not, ◌++◌, ◌+◌, ◌-◌, ◌*◌, ◌≤◌, length, replicate};
 ghost use Rattle.point_record.specs.Point.{no_point};
 ghost use Rattle.answers.specs.declared.Answer.TheVariants.{Accepted};
@@ -16,7 +18,7 @@ use quarter::{Level, Tariffs, Transformer};
 use worth::Figures;
 
 // The points of a file, and whether each keeps the rules.
-#[derive(Drop)]
+#[derive(Clone, Copy)]
 struct PointsRead {
     right: bool,
     points: [Point; 8],

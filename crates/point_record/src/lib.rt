@@ -1,5 +1,7 @@
 // A supply point of a month file, 21 bytes; document 01, "Month file".
 // The decoder and the encoder undo each other, and both refuse a slice of any other length.
+#![tactic(auto)]
+
 ghost use Rattle.std.specs.Prelude.{◌≡◌, ◌+◌, ◌*◌, ◌^◌, ◌<◌, get_or};
 ghost use Rattle.quantity.specs.Quantity.{grains};
 ghost use Rattle.quarter.specs.Reading.{band};
@@ -17,7 +19,7 @@ use record_fields::{read_fields, write_fields};
 const WIDTHS: [usize; 14] = [1, 1, 3, 17, 17, 17, 12, 16, 12, 16, 12, 16, 12, 16];
 
 // A supply point. Of its four places for transformers the first `transformers` are counted.
-#[derive(Drop)]
+#[derive(Clone, Copy)]
 pub struct Point {
     pub semi_active: bool,
     pub level: Level,
@@ -30,7 +32,7 @@ pub struct Point {
 }
 
 // What the bytes of a point hold.
-#[derive(Drop)]
+#[derive(Clone, Copy)]
 pub enum PointAnswer {
     Read(Point),
     Refused,

@@ -1,6 +1,8 @@
 // Runs post and write on the cases of a text, its standard input: files posted whole, each refusal with its
 // index and the book handed back, and books written. docs/posting_cases.md has the cases; the answers that
 // are due, in the file `stdout`, are those of the reader of the same text in tests/oracle.
+#![tactic(auto)]
+
 use libc::STDIN_FILENO;
 
 fn main() {

@@ -5,14 +5,16 @@
 // No function here has a `requires`. A sum or a product past the largest count is that largest
 // count, and a difference below nothing is nothing; the exact contracts of callers show that they
 // meet neither.
+#![tactic(auto)]
+
 mod capped;
 mod energy;
 mod money;
 
 // Energy. A grain, a term of document 01, is 1/1600 kvarh.
-#[derive(Drop)]
+#[derive(Clone, Copy)]
 pub struct Grains(u64);
 
 // Money, as grains times a tariff in 0.01 CHF/Mvarh, unrounded: 1,600,000 make one rappen.
-#[derive(Drop)]
+#[derive(Clone, Copy)]
 pub struct Amount(u64);

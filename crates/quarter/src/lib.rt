@@ -1,6 +1,8 @@
 // One quarter-hour of a supply point: which shares its net reactive energy falls into, and what they
 // are worth. The shares are those of document 01, "One quarter-hour", which reads source document
 // 004, chapters 2 to 4; `specs/Reading.antt` has 01's lines and `specs/Source.antt` those of 004.
+#![tactic(auto)]
+
 mod classification;
 mod levels;
 mod ranges;
@@ -15,14 +17,14 @@ use voltages::Voltage;
 
 // The role that a point plays in keeping the voltage. A semi-active point has its band B with it,
 // the energy a quarter-hour that is free at any voltage.
-#[derive(Drop)]
+#[derive(Clone, Copy)]
 pub enum Role {
     Active,
     SemiActive(Grains),
 }
 
 // The voltage level that a point is connected to.
-#[derive(Drop)]
+#[derive(Clone, Copy)]
 pub enum Level {
     Kv220,
     Kv380,
@@ -30,7 +32,7 @@ pub enum Level {
 
 // A transformer of a semi-active point: the short-circuit voltage uk in 0.01 %, and the rated power
 // Sn in 0.1 MVA.
-#[derive(Drop)]
+#[derive(Clone, Copy)]
 pub struct Transformer {
     pub uk: u16,
     pub sn: u16,
@@ -38,7 +40,7 @@ pub struct Transformer {
 
 // What is metered in one quarter-hour: energies in kvarh, the run lamp, and the actual and the set
 // voltage.
-#[derive(Drop)]
+#[derive(Clone, Copy)]
 pub struct Metered {
     pub lamp: bool,
     pub take: u32,
@@ -49,7 +51,7 @@ pub struct Metered {
 
 // The five shares of document 01. Allowance is its word for the band's part of an energy above the
 // band, disconnected for energy of an active point whose lamp is out.
-#[derive(Drop)]
+#[derive(Clone, Copy)]
 pub struct Shares {
     pub paid: Grains,
     pub free: Grains,
@@ -59,7 +61,7 @@ pub struct Shares {
 }
 
 // The share that an energy is filed under.
-#[derive(Drop)]
+#[derive(Clone, Copy)]
 pub enum Class {
     Paid,
     Free,
@@ -68,7 +70,7 @@ pub enum Class {
 }
 
 // Tariffs in 0.01 CHF/Mvarh.
-#[derive(Drop)]
+#[derive(Clone, Copy)]
 pub struct Tariffs {
     pub payment: u32,
     pub billing: u32,
@@ -76,7 +78,7 @@ pub struct Tariffs {
 }
 
 // What a quarter-hour brings and costs, unrounded.
-#[derive(Drop)]
+#[derive(Clone, Copy)]
 pub struct Amounts {
     pub credit: Amount,
     pub debit: Amount,

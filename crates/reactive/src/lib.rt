@@ -1,5 +1,7 @@
 // The one door to C: functions on plain numbers and slices, each thin over the crate that does the
 // work. `include/reactive.h` declares the calls of the members' C program.
+#![tactic(auto)]
+
 mod basic_charge;
 mod low_side;
 mod measured;

@@ -1,6 +1,8 @@
 // What the records of a month file share, document 01, "Month file": the fields of a record follow
 // each other from its first bit on without gaps. Header, point and entry are three kinds of record
 // (`Kind` in `specs/Record.antt`); each has a crate of its own.
+#![tactic(auto)]
+
 ghost use Rattle.std.specs.Prelude.{◌≡◌, length};
 ghost use Rattle.bits.specs.Fields.{fields_at, stored_all, Fit};
 ghost use Rattle.record_fields.specs.Layout.{Layout, Small};

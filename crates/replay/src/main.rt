@@ -2,6 +2,8 @@
 //
 // Standard input is the length of the file, the file, how many bytes the journal has, how many places the index, and
 // the calls. These numbers have four bytes each, most significant first.
+#![tactic(auto)]
+
 mod buffers;
 mod page;
 

@@ -1,4 +1,6 @@
 // What the program prints: the statement of a month file, or its refusal.
+#![tactic(auto)]
+
 ghost use Rattle.std.specs.Prelude.{◌≡◌, map, ◌≤◌, length};
 ghost use Rattle.statement_lines.specs.Lines.{line_of};
 ghost use Rattle.statement_total.specs.Total.{Addable};

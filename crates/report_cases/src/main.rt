@@ -4,6 +4,8 @@
 //
 // A case is a line with its label, and the text that the program would print. The file `stdout` has the
 // answers; docs/report_cases.md says where they come from.
+#![tactic(auto)]
+
 mod files;
 
 use files::{EMPTY_MONTH, EXAMPLE, HALF_RAPPEN, LARGEST_HEAD, TWO_HALVES};

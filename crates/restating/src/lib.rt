@@ -1,5 +1,7 @@
 // The totals of a book restated for one entry: its figures come in, and those of the entry that it takes the
 // place of go out; or the other way round.
+#![tactic(auto)]
+
 ghost use Rattle.std.specs.Prelude.{◌≡◌, ◌<◌};
 ghost use Rattle.restating.specs.Steps.{worth_at_point, worth_among, worth_standing, Placed, exchanged_at};
 

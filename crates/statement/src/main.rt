@@ -1,4 +1,6 @@
 // Prints the statement of the month file on standard input.
+#![tactic(auto)]
+
 use report::printed;
 
 fn main() {

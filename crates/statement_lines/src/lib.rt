@@ -1,4 +1,6 @@
 // The lines of a statement: what is printed of the totals of each point.
+#![tactic(auto)]
+
 ghost use Rattle.std.specs.Prelude.{◌≡◌, map};
 ghost use Rattle.statement_lines.specs.Lines.{line_of};
 

@@ -1,4 +1,6 @@
 // The text of a statement: the figures that are to be printed, and the page that they are laid out on.
+#![tactic(auto)]
+
 mod layout;
 mod page;
 
@@ -6,7 +8,7 @@ pub use layout::text_of;
 pub use page::Page;
 
 // A line of the statement: energies in grains, credit and debit in rappen.
-#[derive(Drop)]
+#[derive(Clone, Copy)]
 pub struct Line {
     pub absolute: u64,
     pub paid: u64,
@@ -32,7 +34,7 @@ pub const NO_FIGURES: Line = Line {
 
 // What is to be printed: the number of a refusal; or 0, and the figures of the first line, of each
 // point and of the total. Beside a refusal the figures are 0.
-#[derive(Drop)]
+#[derive(Clone, Copy)]
 pub struct Statement {
     pub number: u32,
     pub year: u16,

@@ -7,7 +7,7 @@ ghost use Rattle.statement_text.specs.Steps.{Behind};
 ghost use Rattle.statement_text.specs.Text.{decimal, spaced, two_digits, page_of};
 
 // Bytes of text, and how many there are. The bytes behind them are 0.
-#[derive(Drop)]
+#[derive(Clone, Copy)]
 pub struct Page {
     pub bytes: [u8; 2048],
     pub length: usize,

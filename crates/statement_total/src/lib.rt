@@ -1,4 +1,6 @@
 // The last line of a statement: the total of the lines that are printed above it.
+#![tactic(auto)]
+
 ghost use Rattle.std.specs.Prelude.{◌≡◌, ◌+◌, ◌^◌, ◌<◌, take};
 ghost use Rattle.worth.specs.Figures.{Column};
 ghost use Rattle.statement_total.specs.Total.{figure_of, line_with, total_line, Addable};

@@ -1,6 +1,8 @@
 // A quarter-hour that was metered on the low-voltage side of a transformer, for stations without a meter on the
 // high side: what the high side took or supplied. 02, Ticket 2; the procedure is the exact one of source
 // document 001, 4.1.1.
+#![tactic(auto)]
+
 mod answers;
 mod conversion;
 mod energies;
@@ -12,7 +14,7 @@ pub use conversion::convert;
 
 // What the low side metered in a quarter-hour: active energy in kWh and reactive energy in kvarh, positive
 // towards the transformer.
-#[derive(Drop)]
+#[derive(Clone, Copy)]
 pub struct LowSide {
     pub active: i32,
     pub reactive: i32,
@@ -20,7 +22,7 @@ pub struct LowSide {
 
 // What the transformer's data sheet has: the rated power Sn in 0.1 MVA, the short-circuit voltage uk and the
 // no-load current i0 in 0.01 %, and the copper losses at rated current in kW.
-#[derive(Drop)]
+#[derive(Clone, Copy)]
 pub struct DataSheet {
     pub sn: u32,
     pub uk: u32,
@@ -30,7 +32,7 @@ pub struct DataSheet {
 
 // The answer of a conversion: done, or one of 02's refusals. Implausible is our word for 15, fields that do not go
 // together: uk below uR, or an apparent power above twice Sn.
-#[derive(Drop)]
+#[derive(Clone, Copy)]
 pub enum ConversionAnswer {
     Converted,
     OutOfRange,
@@ -38,7 +40,7 @@ pub enum ConversionAnswer {
 }
 
 // Reactive energy of the high side in kvarh, for an entry: one of the two is 0, and both are beside a refusal.
-#[derive(Drop)]
+#[derive(Clone, Copy)]
 pub struct HighSide {
     pub answer: ConversionAnswer,
     pub take: u32,

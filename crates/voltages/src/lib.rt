@@ -1,6 +1,8 @@
 // Voltages and the margins between them, the third kind of quantity beside energy and money. Like
 // those of the crate `quantity` it is a tuple struct whose field is private to its crate, and no
 // function has a `requires`: a sum past the largest count is that largest count.
+#![tactic(auto)]
+
 ghost use Rattle.std.specs.Prelude.{◌≡◌, ◌+◌, ltb};
 ghost use Rattle.quantity.specs.Quantity.{capped};
 ghost use Rattle.voltages.specs.Voltages.{voltage};
@@ -9,7 +11,7 @@ ghost use Rattle.voltages.specs.Voltages.{voltage};
 const MOST: u32 = 4_294_967_295;
 
 // A voltage, or the margin between two, in hundredths of a kilovolt.
-#[derive(Drop)]
+#[derive(Clone, Copy)]
 pub struct Voltage(u32);
 
 impl Voltage {

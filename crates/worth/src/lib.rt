@@ -4,13 +4,15 @@
 // No function here has a `requires`. A figure past the largest count is that largest count. Within
 // document 01's ranges no quarter-hour meets it (proofs/Held.antt), and the contracts of the book
 // show that no sum does.
+#![tactic(auto)]
+
 mod sums;
 mod valuation;
 
 use quantity::{Amount, Grains};
 
 // The figures of a quarter-hour, or of a point's whole month: energies in grains, amounts unrounded.
-#[derive(Drop)]
+#[derive(Clone, Copy)]
 pub struct Figures {
     pub absolute: Grains,
     pub paid: Grains,

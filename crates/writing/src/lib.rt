@@ -1,4 +1,6 @@
 // Writing a book as a month file.
+#![tactic(auto)]
+
 ghost use Rattle.std.specs.Prelude.{◌≡◌, true, false, ◌++◌, ◌*◌, ◌≤◌, length, take, drop};
 ghost use Rattle.lists.specs.Lists.{all_of};
 ghost use Rattle.point_record.specs.Point.{point_in_range};
@@ -13,7 +15,7 @@ use header_record::{Header, encode_header};
 use point_record::{Point, encode_point};
 
 // What writing a book gives: the answer, and the length of the file, 0 beside a refusal.
-#[derive(Drop)]
+#[derive(Clone, Copy)]
 pub struct Written {
     pub answer: Answer,
     pub length: usize,
@@ -71,7 +73,7 @@ fn write_file(book: Book, journal: &[u8], output: &mut [u8])
     // The header of a sound book is in range, so it is written.
     encode_header(header, &mut output[..7]);
     write_points(points, count, &mut output[7..first]);
-    bytes::copy(&journal[..held], &mut output[first..end]);
+    output[first..end].copy_from_slice(&journal[..held]);
 }
 
 // Writes the points that are counted, one after the other.
