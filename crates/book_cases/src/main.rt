@@ -8,7 +8,10 @@
 // its eight figures. A command that is not understood prints `?`.
 #![tactic(auto)]
 
-use libc::{STDIN_FILENO, STDOUT_FILENO};
+
+// Standard input and standard output, by their numbers.
+const STDIN_FILENO: i32 = 0;
+const STDOUT_FILENO: i32 = 1;
 
 fn main() {
     let mut input = io::large_buffer();

@@ -8,10 +8,12 @@ ghost use Rattle.std.specs.Prelude.{◌≤◌};
 
 use book::{Book, Reply, Totals};
 use books::{same_book, void_book};
-use libc::STDOUT_FILENO;
 use posting::Posted;
 use worth::Figures;
 use writing::Written;
+
+// Standard output, by its number.
+const STDOUT_FILENO: i32 = 1;
 
 // Bytes as they are.
 pub fn text(text: &[u8]) {

@@ -5,7 +5,9 @@
 ghost use Rattle.std.specs.Prelude.{◌≡◌};
 ghost use Rattle.basic_tariff.specs.BasicTariff.{K};
 
-use libc::STDOUT_FILENO;
+
+// Standard output, by its number.
+const STDOUT_FILENO: i32 = 1;
 
 fn main() {
     heading();

@@ -5,9 +5,12 @@
 
 mod numbers;
 
-use libc::{STDIN_FILENO, STDOUT_FILENO};
 use numbers::{Number, row_at, signed};
 use transformer::{DataSheet, LowSide, convert};
+
+// Standard input and standard output, by their numbers.
+const STDIN_FILENO: i32 = 0;
+const STDOUT_FILENO: i32 = 1;
 
 fn main() {
     let mut input = io::large_buffer();

@@ -11,9 +11,11 @@ ghost use Rattle.std.specs.Prelude.{◌+◌, ◌^◌, ◌≤◌, ◌<◌};
 use bits::put;
 use entry_record::EntryAnswer;
 use header_record::HeaderAnswer;
-use libc::STDOUT_FILENO;
 use point_record::PointAnswer;
 use quarter::{Level, Transformer};
+
+// Standard output, by its number.
+const STDOUT_FILENO: i32 = 1;
 
 const HEADER: [u8; 7] = *b"BE\x7e\x82\x20\x00\x04";
 

@@ -1,5 +1,7 @@
 // Numbers on standard output.
-use libc::STDOUT_FILENO;
+
+// Standard output, by its number.
+const STDOUT_FILENO: i32 = 1;
 
 // A number in decimal and a space.
 pub fn figure(n: u64) {
