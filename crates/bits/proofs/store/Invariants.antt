@@ -1,0 +1,14 @@
+-- `bits::store` meets its contract. The invariant: the bytes passed hold the low bytes of the word, and the rest of it is left.
+use Prim.Native.Nat.{◌+◌, ◌-◌, ◌≤◌}
+use mathlib.Core.Path.{◌≡◌, refl, ◌∙◌}
+use native.Mathlib.Omega.{arith}
+use lib.ListN.{length, length-set}
+use Rattle.bits.proofs.Words.{Done, store_none, store_byte, store_all}
+use Rattle.bits.proofs.store.Given as goal
+
+abbrev pub invariant-loop-left : goal.invariant-loop-left
+invariant-loop-left l =
+    (l.left ≤ l.count) × (length l.bytes ≡ length l.initial.bytes) × Done l.initial.bytes l.first l.count l.initial.word l.bytes l.left l.word
+
+abbrev pub decreases-loop-left : goal.decreases-loop-left
+decreases-loop-left l = l.left

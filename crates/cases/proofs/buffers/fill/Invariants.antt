@@ -1,0 +1,6 @@
+-- `cases::buffers::fill` is safe and ends.
+use Rattle.std.proofs.Common.{◌≡◌, ◌-◌, length, rules}
+use Rattle.cases.proofs.buffers.fill.Given as goal
+
+abbrev pub invariant-loop-i : goal.invariant-loop-i
+invariant-loop-i l = (length l.bytes ≡ length l.initial.bytes)

@@ -1,0 +1,6 @@
+-- `quantity::Amount::plus` meets its contract: what `sum` gives is the new count.
+use borrow.Author.Rules.{rules}
+use Rattle.quantity.proofs.Amount.plus.Goals as goal
+
+pub returns : goal.returns
+returns c = c.sum.ensures

@@ -1,0 +1,6 @@
+-- `quantity::Grains::minus` meets its contract: what `difference` gives is the new count.
+use borrow.Author.Rules.{rules}
+use Rattle.quantity.proofs.Grains.minus.Goals as goal
+
+pub returns : goal.returns
+returns c = c.difference.ensures

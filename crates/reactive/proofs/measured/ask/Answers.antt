@@ -1,0 +1,38 @@
+-- `reactive::measured::ask` meets its contract.
+use Prim.Native.Nat.{◌-◌, ◌≤◌}
+use mathlib.Core.Path.{◌≡◌, refl}
+use native.Mathlib.Omega.{arith}
+use borrow.Author.Rules.{rules}
+use Rattle.book.specs.Library.{lent}
+use Rattle.reactive.specs.Measured.{asked}
+use Rattle.reactive.proofs.Asking.{length-asked, asked-next, asked_all}
+use Rattle.reactive.proofs.measured.ask.Goals as goal
+
+pub loop-init : goal.loop-init
+unfolding asked
+loop-init c = (omega arith, refl)
+
+pub put_totals-requires : goal.put_totals-requires
+put_totals-requires c =
+    let s = c in
+    let l = c.loop in
+    omega (arith, s.requires, length-asked _ _ _ s.requires l.counter _ l.invariant.1)
+
+pub loop-preserved : goal.loop-preserved
+loop-preserved c =
+    let s = c in
+    let l = c.loop in
+    let put = c in (
+      omega arith,
+      asked-next _ _ _ s.requires l.counter _ _ _ l.invariant.1 c.totals-totals.ensures (rw put.number.ensures at put.put_totals.ensures),
+    )
+
+pub shape_of-output : goal.shape_of-output
+shape_of-output c =
+    let l = c.loop in
+    length-asked _ _ _ c.requires l.counter _ l.invariant.1
+
+pub returns : goal.returns
+returns c =
+    let l = c.loop in
+    asked_all _ _ _ c.requires _ _ _ l.invariant.1 l.invariant.0 c.loop-test.false
