@@ -9,7 +9,4 @@ returns c =
     let a = c.args in
     let s = c.span_of-span in
     let w = c.load-word in
-    got a.bytes.now a.at a.width w.result s.result s.ensures (omega arith) w.ensures c.ones.result c.ones.ensures
-
-pub returns-clause-value : goal.returns-clause-value
-returns-clause-value c = ?
+ let k = got a.bytes.now a.at a.width w.result s.result s.ensures (omega arith) w.ensures c.ones.result c.ones.ensures in record { value = k.0; upper_bound = k.1 }

@@ -20,6 +20,3 @@ returns c =
     patched_stored a.bytes.now a.at a.width w.result s.result s.ensures (omega arith) w.ensures a.value b.ones.result
     (omega arith) (omega arith) b.ones.ensures (λ k. (b.type_inv.bytes k).fits)
     c.store.new.bytes c.store.ensures
-
-pub store-requires-clause-word_bound : goal.store-requires-clause-word_bound
-store-requires-clause-word_bound c = ?

@@ -17,36 +17,36 @@ pub put_figures-requires : goal.put_figures-requires
 put_figures-requires c =
     let s = c in
     let a = s.args in
-    let eight : length a.t5 ≡ 8 = s.well-formed.1.1.1.1.0.1.0.1 in
+    let eight : length a.points ≡ 8 = s.well_formed.1.1.1.1.0.1.0.1 in
     let l = c.loop-i in
     let w = c.put_words.new.bytes in
-    let n = length_filled w (a.to + 16) a.t5 eight (omega arith) l.i l.output l.invariant.0 l.invariant.1 in
+    let n = length_filled w (a.to + 16) a.points eight (omega arith) l.i l.output l.invariant.0 l.invariant.1 in
     omega arith
 
 pub loop-i-preserved : goal.loop-i-preserved
 loop-i-preserved c =
     let s = c in
     let a = s.args in
-    let eight : length a.t5 ≡ 8 = s.well-formed.1.1.1.1.0.1.0.1 in
+    let eight : length a.points ≡ 8 = s.well_formed.1.1.1.1.0.1.0.1 in
     let l = c.loop-i in
     let w = c.put_words.new.bytes in
-    let next = next_filled w (a.to + 16) a.t5 eight (omega arith) in
+    let next = next_filled w (a.to + 16) a.points eight (omega arith) in
     (omega arith, next l.i l.output _ (omega arith) l.invariant.1 c.put_figures.ensures)
 
 pub shape_of-output : goal.shape_of-output
 shape_of-output c =
     let s = c in
     let a = s.args in
-    let eight : length a.t5 ≡ 8 = s.well-formed.1.1.1.1.0.1.0.1 in
+    let eight : length a.points ≡ 8 = s.well_formed.1.1.1.1.0.1.0.1 in
     let l = c.loop-i in
     let w = c.put_words.new.bytes in
-    let n = length_filled w (a.to + 16) a.t5 eight (omega arith) l.i l.output l.invariant.0 l.invariant.1 in
+    let n = length_filled w (a.to + 16) a.points eight (omega arith) l.i l.output l.invariant.0 l.invariant.1 in
     omega arith
 
 pub returns : goal.returns
 returns c =
     let s = c in
     let a = s.args in
-    let eight : length a.t5 ≡ 8 = s.well-formed.1.1.1.1.0.1.0.1 in
+    let eight : length a.points ≡ 8 = s.well_formed.1.1.1.1.0.1.0.1 in
     let l = c.loop-i in
-    totals-stored a.output.now a.to _ _ a.t5 eight s.requires _ l.output l.i c.put_words.ensures (omega arith) l.invariant.1
+    totals-stored a.output.now a.to _ _ a.points eight s.requires _ l.output l.i c.put_words.ensures (omega arith) l.invariant.1

@@ -10,4 +10,4 @@ pub returns : goal.returns
 unfolding with_figures
 returns c =
     let a = c.args in
-    λ i. with_totals a.book (set a.book.totals (at a.t2 0 % 8) (c.figures_of-figures.ensures i))
+    λ i. with_totals a.book (set a.book.totals (at a.row 0 % 8) (c.figures_of-figures.ensures i))

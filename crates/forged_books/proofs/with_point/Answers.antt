@@ -12,4 +12,4 @@ returns c =
     let m = a.book.master in
     λ i.
     with_master a.book
-    (record { year = m.year; month = m.month; count = m.count; points = set m.points (at a.t2 0 % 8) (c.point_of-point.ensures i) })
+    (record { year = m.year; month = m.month; count = m.count; points = set m.points (at a.row 0 % 8) (c.point_of-point.ensures i) })

@@ -8,10 +8,11 @@ use lib.ListN.{length, set}
 use Rattle.index.specs.Index.{places_of}
 use Rattle.index.proofs.Clearing.{zeroed, length_zeroed, zeroed_next}
 use Rattle.index.proofs.Comparing.{long_enough}
+use Rattle.index.proofs.clear.Goals.{After-places_of-places}
 use Rattle.index.proofs.clear.Goals as goal
 
 -- all the places that are zeroed are there
-enough : (c : goal.After-places_of-places invariant-loop decreases-loop) → c.places_of-places.result ≤ length c.args.index.now
+enough : (c : After-places_of-places) → c.places_of-places.result ≤ length c.args.index.now
 enough c = omega (arith, c.places_of-places.ensures, long_enough _ _ c.requires)
 
 pub loop-place-init : goal.loop-place-init

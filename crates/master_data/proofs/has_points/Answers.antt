@@ -28,8 +28,8 @@ returns-then-not-point_in_range c =
     let s = c in
     let l = c.loop-i in
     let b = s.args.master in
-    let n : length b.points ≡ 8 = eight b.points s.well-formed.0.1.1.1.1.1.0.1.0.1 in
-    let e : point_in_range (get_or b.points l.i no_point) ≡ false = sym c.point_in_range.ensures ∙ not-true _ c.if-not-point_in_range.true in
+    let n : length b.points ≡ 8 = eight b.points s.well_formed.0.1.1.1.1.1.0.1.0.1 in
+    let e : point_in_range (get_or b.points l.i no_point) ≡ false = sym c.point_in_range.ensures ∙ c.if-not-point_in_range.true in
     rw (all_stop point_in_range no_point b.points l.i b.count (omega arith) (omega arith) e)
 
 pub loop-i-preserved : goal.loop-i-preserved
@@ -38,8 +38,8 @@ loop-i-preserved c =
     let s = c in
     let l = c.loop-i in
     let b = s.args.master in
-    let n : length b.points ≡ 8 = eight b.points s.well-formed.0.1.1.1.1.1.0.1.0.1 in
-    let e : point_in_range (get_or b.points l.i no_point) ≡ true = sym c.point_in_range.ensures ∙ not-false _ c.if-not-point_in_range.false in
+    let n : length b.points ≡ 8 = eight b.points s.well_formed.0.1.1.1.1.1.0.1.0.1 in
+    let e : point_in_range (get_or b.points l.i no_point) ≡ true = sym c.point_in_range.ensures ∙ c.if-not-point_in_range.false in
     (omega arith, all_next point_in_range no_point b.points l.i (omega arith) l.invariant.1 e)
 
 pub returns : goal.returns

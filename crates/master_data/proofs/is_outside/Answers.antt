@@ -12,6 +12,6 @@ pub returns : goal.returns
 returns c =
     let s = c in
     let a = s.args in
-    let room = eight a.master.points s.well-formed.0.1.1.1.1.1.0.1.0.1 in
+    let room = eight a.master.points s.well_formed.0.1.1.1.1.1.0.1.0.1 in
     ap (λ (n : ℕ). leb a.master.count a.point || leb n a.quarter) c.quarters_of_month.ensures
     ∙ outside_count a.master a.point a.quarter (omega (arith, room, count_most a.master s.requires))

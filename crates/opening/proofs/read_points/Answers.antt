@@ -36,4 +36,4 @@ returns c =
     let a = c.args in
     let l = c.loop-i in
     let i : l.i ≡ a.count = omega arith in
-    all_read a.count l.i a.file.now l.points i l.invariant.1.0 l.invariant.1.1
+ let k = all_read a.count l.i a.file.now l.points i l.invariant.1.0 l.invariant.1.1 in record { right_value = k.0; points_value = k.1 }

@@ -31,7 +31,7 @@ place_of-requires-4 c = let f = c.requires in  record { at_bound = omega arith; 
 
 pub returns : goal.returns
 returns c =
-    let vs = c.args.t1 in
+    let vs = c.args.values in
     λ i.
     record {
       semi_active = eqb (get_or vs 0 0) 1;

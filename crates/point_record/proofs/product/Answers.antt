@@ -2,10 +2,12 @@
 use native.Mathlib.Omega.{arith}
 use Rattle.point_record.proofs.Bands.{product_lt, spare, in_use}
 use borrow.Author.Rules.{rules}
+use mathlib.Core.Path.{ap}
+use mathlib.Core.Bool.{not}
 use Rattle.point_record.proofs.product.Goals as goal
 
 pub returns-then-not-counts : goal.returns-then-not-counts
-returns-then-not-counts c = record { value = spare c.args.counts c.args.place c.if-not-counts.true; upper_bound = omega arith }
+returns-then-not-counts c = record { value = spare c.args.counts c.args.place (ap not c.if-not-counts.true); upper_bound = omega arith }
 
 pub overflow_mul-result : goal.overflow_mul-result
 overflow_mul-result c =
@@ -16,4 +18,4 @@ overflow_mul-result c =
 pub returns : goal.returns
 returns c =
     let a = c.args.place in
- record { value = in_use c.args.counts a c.if-not-counts.false; upper_bound = product_lt a.uk a.sn (omega arith) (omega arith) }
+ record { value = in_use c.args.counts a (ap not c.if-not-counts.false); upper_bound = product_lt a.uk a.sn (omega arith) (omega arith) }

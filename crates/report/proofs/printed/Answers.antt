@@ -7,4 +7,4 @@ pub returns : goal.returns
 unfolding printed
 returns c =
     let page = c.text_of.ensures in
- record { value = page.0 ∙ ap (λ (s : Statement). page_of (text_of s)) c.statement_of.ensures; length_in_bounds = page.1 }
+ record { value = page.value ∙ ap (λ (s : Statement). page_of (text_of s)) c.statement_of.ensures; length_in_bounds = page.length_in_bounds }

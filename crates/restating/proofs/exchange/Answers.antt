@@ -12,5 +12,5 @@ pub returns : goal.returns
 unfolding exchanged_held
 returns c =
     let s = c in
-    ap (set s.args.t1 s.args.point)
+    ap (set s.args.totals s.args.point)
     (c.minus.ensures ∙ ap (λ (f : Figures). each (λ k. figure f k - figure s.args.outgoing k)) c.plus.ensures)

@@ -16,27 +16,27 @@ returns-then-i-count c =
     let start = c in
     let l = c.loop-i in
     let all : l.i ≡ start.args.count = omega arith in
-    l.invariant.1.1 ∙ ap (λ (n : ℕ). total_line (take n start.args.t1)) all
+    l.invariant.1.1 ∙ ap (λ (n : ℕ). total_line (take n start.args.lines)) all
 
 pub plus-total-requires : goal.plus-total-requires
 plus-total-requires c =
     let start = c in
     let l = c.loop-i in
-    let eight : length start.args.t1 ≡ 8 = start.well-formed.0.1.0.1 in
-    next_held start.args.t1 start.requires l.i (omega arith) (omega arith) l.total l.invariant.1.1
+    let eight : length start.args.lines ≡ 8 = start.well_formed.0.1.0.1 in
+    next_held start.args.lines start.requires l.i (omega arith) (omega arith) l.total l.invariant.1.1
 
 pub loop-i-preserved : goal.loop-i-preserved
 loop-i-preserved c =
     let start = c in
     let l = c.loop-i in
-    let eight : length start.args.t1 ≡ 8 = start.well-formed.0.1.0.1 in
-    let next = next-total start.args.t1 start.requires l.i (omega arith) (omega arith) l.total l.invariant.1.1 _ c.plus-total.ensures in
+    let eight : length start.args.lines ≡ 8 = start.well_formed.0.1.0.1 in
+    let next = next-total start.args.lines start.requires l.i (omega arith) (omega arith) l.total l.invariant.1.1 _ c.plus-total.ensures in
     (omega arith, (omega arith, next))
 
 pub returns : goal.returns
 returns c =
     let start = c in
     let l = c.loop-i in
-    let eight : length start.args.t1 ≡ 8 = start.well-formed.0.1.0.1 in
-    let all = take_all l.i start.args.t1 (omega arith) ∙ sym (take_all start.args.count start.args.t1 (omega arith)) in
+    let eight : length start.args.lines ≡ 8 = start.well_formed.0.1.0.1 in
+    let all = take_all l.i start.args.lines (omega arith) ∙ sym (take_all start.args.count start.args.lines (omega arith)) in
     l.invariant.1.1 ∙ ap total_line all

@@ -13,7 +13,7 @@ pub returns-in_default : goal.returns-in_default
 returns-in_default c =
     let q = c in
     let j = q.judge-verdict in
-    refused_with_lem c.refused.ensures (guard_answered _ _ _ _ (refused-number j.result q.in-Accepted.keys2) j.ensures)
+    refused_with_lem c.refused.ensures (guard_answered _ _ _ _ (refused-number j.result q.in_default.not-Accepted) j.ensures)
 
 pub overflow_mul-length-2 : goal.overflow_mul-length-2
 overflow_mul-length-2 c =

@@ -6,10 +6,11 @@ use lib.Seq.{length-take-le}
 use Rattle.master_data.proofs.Ranged.{eight}
 use Rattle.writing.specs.Writing.{file_length}
 use Rattle.writing.proofs.FileWritten.{Writable, writable, header_kept, points_part, points_kept, entries_part, entries_held, file_written}
+use Rattle.writing.proofs.write_file.Goals.{Start}
 use Rattle.writing.proofs.write_file.Goals as goal
 
 -- the book fits a file
-fit : (s : goal.Start) → Writable s.args.book s.args.journal.now
+fit : (s : Start) → Writable s.args.book s.args.journal.now
 fit s = writable s.requires.master_value s.requires.master_value_2 s.requires.journal_value
 
 pub overflow_cast-entries : goal.overflow_cast-entries
@@ -48,6 +49,6 @@ returns c =
     let points = entries in
     let header = points in
     let s = header in
-    let size = eight s.args.book.master.points s.well-formed.0.1.1.0.1.1.1.1.1.0.1.0.1 in
+    let size = eight s.args.book.master.points s.well_formed.0.1.1.0.1.1.1.1.1.0.1.0.1 in
     let k = file_written (fit (s)) s.args.output.now s.requires.book_in_bounds _ _ header.encode_header.ensures size in
     k _ points.write_points.ensures _ entries.copy.ensures.1

@@ -17,10 +17,10 @@ pub slice_bounds-encode_point-end : goal.slice_bounds-encode_point-end
 slice_bounds-encode_point-end c =
     let s = c in
     let a = s.args in
-    let eight : length a.t1 ≡ 8 = s.well-formed.0.1.0.1 in
+    let eight : length a.points ≡ 8 = s.well_formed.0.1.0.1 in
     let l = c.loop-i in
     let n =
-    length-written a.t1 a.count (omega arith) s.requires.points_value a.output.now l.output s.requires.output_len
+    length-written a.points a.count (omega arith) s.requires.points_value a.output.now l.output s.requires.output_len
     l.i l.invariant.0 l.invariant.1 in
     omega arith
 
@@ -28,10 +28,10 @@ pub loop-i-preserved : goal.loop-i-preserved
 loop-i-preserved c =
     let s = c in
     let a = s.args in
-    let eight : length a.t1 ≡ 8 = s.well-formed.0.1.0.1 in
+    let eight : length a.points ≡ 8 = s.well_formed.0.1.0.1 in
     let l = c.loop-i in
     let next =
-    written_next a.t1 a.count (omega arith) s.requires.points_value a.output.now l.output s.requires.output_len
+    written_next a.points a.count (omega arith) s.requires.points_value a.output.now l.output s.requires.output_len
     l.i l.invariant.0 l.invariant.1 in
     (omega arith, next _ _ _ (omega arith) c.encode_point.ensures)
 
@@ -39,17 +39,17 @@ pub shape_of-output : goal.shape_of-output
 shape_of-output c =
     let s = c in
     let a = s.args in
-    let eight : length a.t1 ≡ 8 = s.well-formed.0.1.0.1 in
+    let eight : length a.points ≡ 8 = s.well_formed.0.1.0.1 in
     let l = c.loop-i in
-    length-written a.t1 a.count (omega arith) s.requires.points_value a.output.now l.output s.requires.output_len
+    length-written a.points a.count (omega arith) s.requires.points_value a.output.now l.output s.requires.output_len
     l.i l.invariant.0 l.invariant.1
 
 pub returns : goal.returns
 returns c =
     let s = c in
     let a = s.args in
-    let eight : length a.t1 ≡ 8 = s.well-formed.0.1.0.1 in
+    let eight : length a.points ≡ 8 = s.well_formed.0.1.0.1 in
     let l = c.loop-i in
-    written_all a.t1 a.count (omega arith) s.requires.points_value a.output.now l.output s.requires.output_len
+    written_all a.points a.count (omega arith) s.requires.points_value a.output.now l.output s.requires.output_len
     l.i l.invariant.0 l.invariant.1
     (omega arith)

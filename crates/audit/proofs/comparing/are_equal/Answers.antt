@@ -16,16 +16,16 @@ loop-i-init c = (omega arith, refl)
 pub loop-i-preserved : goal.loop-i-preserved
 loop-i-preserved c =
     let a = c.args in
-    let g = c.well-formed in
+    let g = c.well_formed in
     let l = c.loop-i in
-    let s : length a.t1 ≡ 8 = g.0.1.0.1 in
-    let t : length a.t2 ≡ 8 = g.1.0.1.0.1 in
-    (omega arith, ap₂ ◌&&◌ l.invariant.1 c.equals-equal.ensures ∙ same_next a.t1 a.t2 l.i (omega arith) (omega arith))
+    let s : length a.a ≡ 8 = g.0.1.0.1 in
+    let t : length a.b ≡ 8 = g.1.0.1.0.1 in
+    (omega arith, ap₂ ◌&&◌ l.invariant.1 c.equals-equal.ensures ∙ same_next a.a a.b l.i (omega arith) (omega arith))
 
 pub returns : goal.returns
 returns c =
     let a = c.args in
-    let g = c.well-formed in
+    let g = c.well_formed in
     let l = c.loop-i in
     let i : l.i ≡ 8 = omega arith in
-    l.invariant.1 ∙ all_taken a.t1 a.t2 l.i i g.0.1.0.1 g.1.0.1.0.1
+    l.invariant.1 ∙ all_taken a.a a.b l.i i g.0.1.0.1 g.1.0.1.0.1

@@ -8,10 +8,10 @@ use Rattle.basic_tariff.proofs.weights.share.Goals as goal
 
 pub returns : goal.returns
 unfolding share
-returns c = record { value = refl; upper_bound = share_most (point c.args.drawn c.args.fed_in_lem) }
+returns c = record { value = refl; upper_bound = share_most (point c.args.drawn c.args.fed_in) }
 
 pub overflow_add-sum : goal.overflow_add-sum
-overflow_add-sum c = omega (arith, (energies _ c.requires).drawn, (energies _ c.requires).fed_in_lem)
+overflow_add-sum c = omega (arith, (energies _ c.requires).drawn, (energies _ c.requires).fed_in)
 
 pub overflow_mul-result : goal.overflow_mul-result
 overflow_mul-result c = omega (arith, (energies _ c.requires).drawn)

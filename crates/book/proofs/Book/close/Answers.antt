@@ -9,10 +9,11 @@ use Rattle.book.proofs.Numbers.{guarded, guard_refused}
 use Rattle.book.proofs.Replies.{replied}
 use Rattle.book.proofs.Sound.{Sound}
 use borrow.Author.Rules.{rules}
+use Rattle.book.proofs.Book.close.Goals.{In-Accepted}
 use Rattle.book.proofs.Book.close.Goals as goal
 
 -- the book was judged, and is sound
-lawful : (c : goal.In-Accepted)
+lawful : (c : In-Accepted)
     → let s = c in Sound s.args.self (lent s.args.journal.now s.args.index.now)
 lawful c = let j = c.judge-verdict in guarded _ _ (sym j.ensures ∙ ap number_of c.in-Accepted.is)
 
@@ -20,7 +21,7 @@ pub returns-in_default : goal.returns-in_default
 returns-in_default c =
     let q = c in
     let j = q.judge-verdict in
-    replied c.reply.ensures (guard_refused _ _ close _ (refused-number j.result q.in-Accepted.keys2) j.ensures)
+    replied c.reply.ensures (guard_refused _ _ close _ (refused-number j.result q.in_default.not-Accepted) j.ensures)
 
 pub returns-then-self : goal.returns-then-self
 returns-then-self c =

@@ -14,22 +14,23 @@ use Rattle.book.proofs.Numbers.{guarded, guard_refused}
 use Rattle.book.proofs.Replies.{replied}
 use Rattle.book.proofs.Sound.{Sound, journal_lawful, not_short}
 use borrow.Author.Rules.{rules}
+use Rattle.book.proofs.Book.deliver.Goals.{After-file_entry-filed, In-Accepted, In-Read-2}
 use Rattle.book.proofs.Book.deliver.Goals as goal
 
 -- the book is sound
-sound : (c : goal.In-Accepted)
+sound : (c : In-Accepted)
     → let s = c in
     Sound s.args.self (lent s.args.journal.now s.args.index.now)
 sound c = guarded _ _ (sym c.judge-verdict.ensures ∙ ap number_of c.in-Accepted.is)
 
 -- the entry is read
-is_read : (c : goal.In-Read-2)
+is_read : (c : In-Read-2)
     → let s = c in
     decoded_entry s.args.bytes.now ≡ Read c.entry.given.0.0
 is_read c = sym (entry_decoded _ _ c.decode_entry.ensures) ∙ c.in-Read.is
 
 -- what filing it gave
-given : (c : goal.After-file_entry-filed)
+given : (c : After-file_entry-filed)
     → let read = c in
     let s = read in
     Given s.args.self (lent s.args.journal.now s.args.index.now) s.args.bytes.now read.entry.given.0.0
@@ -42,7 +43,7 @@ pub returns-in_default : goal.returns-in_default
 returns-in_default c =
     let q = c in
     let j = q.judge-verdict in
-    replied c.reply.ensures (guard_refused _ _ _ _ (refused-number j.result q.in-Accepted.keys2) j.ensures)
+    replied c.reply.ensures (guard_refused _ _ _ _ (refused-number j.result q.in_default.not-Accepted) j.ensures)
 
 pub returns-in_default-decode_entry : goal.returns-in_default-decode_entry
 returns-in_default-decode_entry c =
@@ -62,7 +63,7 @@ pub returns-in_default-answer : goal.returns-in_default-answer
 returns-in_default-answer c =
     let q = c in
     let k = q in
-    replied c.reply-in_default-answer.ensures (is_refused (given (goal.at.returns-in_default-answer c).After-file_entry-filed) (refused-number k.file_entry-filed.result.answer q.in-Accepted-answer.keys2))
+    replied c.reply-in_default-answer.ensures (is_refused (given (goal.at.returns-in_default-answer c).After-file_entry-filed) (refused-number k.file_entry-filed.result.answer q.in_default-answer.not-Accepted))
 
 pub found_at-replaced-requires : goal.found_at-replaced-requires
 found_at-replaced-requires c =

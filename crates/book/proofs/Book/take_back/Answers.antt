@@ -11,7 +11,7 @@ pub returns-in_default : goal.returns-in_default
 returns-in_default c =
     let q = c in
     let j = q.judge-verdict in
-    replied c.reply.ensures (guard_refused _ _ _ _ (refused-number j.result q.in-Accepted.keys2) j.ensures)
+    replied c.reply.ensures (guard_refused _ _ _ _ (refused-number j.result q.in_default.not-Accepted) j.ensures)
 
 pub take_back_sound-requires : goal.take_back_sound-requires
 take_back_sound-requires c =

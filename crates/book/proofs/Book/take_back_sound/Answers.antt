@@ -9,10 +9,11 @@ use Rattle.book.proofs.TakingBack.{Answered, is_refused, is_some, lies, is_read,
 use Rattle.book.proofs.Replies.{replied}
 use borrow.Author.Rules.{rules}
 use Rattle.entry_record.proofs.Laws.{entry_decoded}
+use Rattle.book.proofs.Book.take_back_sound.Goals.{After-taking_back_answer-withdrawal}
 use Rattle.book.proofs.Book.take_back_sound.Goals as goal
 
 -- both conditions were tested
-answered : (c : goal.After-taking_back_answer-withdrawal)
+answered : (c : After-taking_back_answer-withdrawal)
     → let s = c in
     Answered s.args.self (lent s.args.journal.now s.args.index.now) c.taking_back_answer-withdrawal.result
 answered c = record { sound = guarded _ _ c.requires; number = c.taking_back_answer-withdrawal.ensures }
@@ -21,7 +22,7 @@ pub returns-in_default : goal.returns-in_default
 returns-in_default c =
     let q = c in
     let k = q in
-    replied c.reply.ensures (is_refused (answered (goal.at.returns-in_default c).After-taking_back_answer-withdrawal) (refused-number k.taking_back_answer-withdrawal.result q.in-Accepted.keys2))
+    replied c.reply.ensures (is_refused (answered (goal.at.returns-in_default c).After-taking_back_answer-withdrawal) (refused-number k.taking_back_answer-withdrawal.result q.in_default.not-Accepted))
 
 pub overflow_sub-last : goal.overflow_sub-last
 overflow_sub-last c = is_some (answered (goal.at.overflow_sub-last c).After-taking_back_answer-withdrawal) c.in-Accepted.is

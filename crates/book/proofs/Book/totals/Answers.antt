@@ -10,7 +10,7 @@ pub returns-in_default : goal.returns-in_default
 returns-in_default c =
     let q = c in
     let j = q.judge-verdict in
-    given_nothing _ _ _ _ (refused-number j.result q.in-Accepted.keys2) j.ensures c.none-nothing.ensures
+    given_nothing _ _ _ _ (refused-number j.result q.in_default.not-Accepted) j.ensures c.none-nothing.ensures
 
 pub returns : goal.returns
 returns c =

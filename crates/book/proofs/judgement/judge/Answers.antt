@@ -7,16 +7,17 @@ use Rattle.index.specs.Index.{short_index}
 use Rattle.index.proofs.Comparing.{is_short, not_short}
 use Rattle.book.specs.Library.{lent}
 use Rattle.book.proofs.Numbers.{judged-short, Judged, judged_sound, judged-unsound}
+use Rattle.book.proofs.judgement.judge.Goals.{After-are_equal, Else-index-places_of}
 use Rattle.book.proofs.judgement.judge.Goals as goal
 
 -- the index was tested, and is long enough
-long : (c : goal.Else-index-places_of)
+long : (c : Else-index-places_of)
     → let s = c in
     short_index s.args.book.master.count s.args.index.now ≡ false
 long c = let p = c in not_short _ _ (omega (arith, p.places_of.ensures, c.if-index-places_of.false))
 
 -- all was tested
-asked : (c : goal.After-are_equal)
+asked : (c : After-are_equal)
     → let sums = c in
     let s = sums in
     Judged s.args.book (lent s.args.journal.now s.args.index.now) sums.summed_afresh-afresh.result c.are_equal.result

@@ -22,7 +22,7 @@ returns-then-script-at-eq3 c =
     let put = c in
     let given = put in
     let asked = call_totals a.script.now a.at given.if-script-at-eq3.true in
-    totals_left _ _ _ _ _ asked _ _ given.totals-totals.ensures (rw put.number.ensures at put.put_totals.ensures)
+ let k = totals_left _ _ _ _ _ asked _ _ given.totals-totals.ensures (rw put.number.ensures at put.put_totals.ensures) in record { value = k.0; index_after = k.1.0; output_after = k.1.1 }
 
 pub make_change-reply-requires : goal.make_change-reply-requires
 make_change-reply-requires c =
@@ -45,5 +45,5 @@ returns c =
     let kind = whole_kind _ _ s.requires.at_nonzero in
     let other = made.if-script-at-eq3.false in
     let eight = room_other a.script.now a.at (omega arith) in
-    change_left a.book (lent a.journal.now a.index.now) (call_at a.script.now a.at) a.output.now a.to eight _ _
-    made.make_change-reply.ensures (rw put.number-2.ensures at put.put_words.ensures)
+ let k = change_left a.book (lent a.journal.now a.index.now) (call_at a.script.now a.at) a.output.now a.to eight _ _
+    made.make_change-reply.ensures (rw put.number-2.ensures at put.put_words.ensures) in record { value = k.0; index_after = k.1.0; output_after = k.1.1 }

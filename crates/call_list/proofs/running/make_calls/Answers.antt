@@ -14,7 +14,7 @@ pub loop-init : goal.loop-init
 loop-init c = none_made _ _ _ _ (guarded _ _ c.requires.index_value)
 
 pub shape_of-journal-then-size-eq0 : goal.shape_of-journal-then-size-eq0
-shape_of-journal-then-size-eq0 c = c.loop.invariant.journal-size
+shape_of-journal-then-size-eq0 c = c.loop.invariant.journal_size
 
 pub shape_of-index-then-size-eq0 : goal.shape_of-index-then-size-eq0
 shape_of-index-then-size-eq0 c = c.loop.invariant.places
@@ -47,7 +47,7 @@ overflow_add-to c =
     let room = has_room _ _ _ _ _ _ _ _ _ _ test.loop.invariant test.loop-test.true _ sized.ensures
     (omega (arith, else.if-size-eq0.false)) s.requires.script_in_bounds
     in
-    omega (arith, room, c.room_at-room.ensures.value, test.loop.invariant.size, s.well-formed.1.1.1.1.0.0)
+    omega (arith, room, c.room_at-room.ensures.value, test.loop.invariant.size, s.well_formed.1.1.1.1.0.0)
 
 pub overflow_add-at : goal.overflow_add-at
 overflow_add-at c =
@@ -80,7 +80,7 @@ loop-preserved c =
     (search rules) (search rules) (search rules)
 
 pub shape_of-journal : goal.shape_of-journal
-shape_of-journal c = c.loop.invariant.journal-size
+shape_of-journal c = c.loop.invariant.journal_size
 
 pub shape_of-index : goal.shape_of-index
 shape_of-index c = c.loop.invariant.places

@@ -4,6 +4,7 @@ use mathlib.Core.Path.{◌≡◌, ap, ◌∙◌}
 use native.Mathlib.Nat.{le-div_iff_mul-le, div-lt_iff_lt-mul, mul-zero}
 use native.Mathlib.Omega.{arith}
 use borrow.Author.Rules.{rules}
+use Rattle.quantity.proofs.capped.product.Goals.{Else-a-b}
 use Rattle.quantity.proofs.capped.product.Goals as goal
 
 most : ℕ
@@ -19,7 +20,7 @@ within a b some q =
     let positive : 0 < b = omega arith in
     (le-div_iff_mul-le positive).0 q
 
-whole : (c : goal.Else-a-b) → c.args.a * c.args.b ≤ most
+whole : (c : Else-a-b) → c.args.a * c.args.b ≤ most
 unfolding most
 whole c = within c.args.a c.args.b c.if-b-eq0.false c.if-a-b.false
 
@@ -36,8 +37,8 @@ returns-then-a-b c =
 
 pub overflow_mul-result : goal.overflow_mul-result
 unfolding most
-overflow_mul-result c = omega (arith, whole c
+overflow_mul-result c = omega (arith, whole c)
 
 pub returns : goal.returns
 unfolding most
-returns c = omega (arith, whole c
+returns c = omega (arith, whole c)

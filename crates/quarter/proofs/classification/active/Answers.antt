@@ -10,9 +10,9 @@ returns-then-is_below c =
 pub returns-then-is_below-2 : goal.returns-then-is_below-2
 returns-then-is_below-2 c =
     active_free_lem _ _ _ _ _ c.tolerance-limit.ensures c.is_below.ensures _ _ _
-    c.active_free_lem.ensures c.plus.ensures c.is_below-2.ensures c.if-is_below.false c.if-is_below-2.true
+    c.active_free.ensures c.plus.ensures c.is_below-2.ensures c.if-is_below.false c.if-is_below-2.true
 
 pub returns : goal.returns
 returns c =
     active_billed _ _ _ _ _ c.tolerance-limit.ensures c.is_below.ensures _ _ _
-    c.active_free_lem.ensures c.plus.ensures c.is_below-2.ensures c.if-is_below.false c.if-is_below-2.false
+    c.active_free.ensures c.plus.ensures c.is_below-2.ensures c.if-is_below.false c.if-is_below-2.false

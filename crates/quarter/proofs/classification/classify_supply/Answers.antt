@@ -9,19 +9,19 @@ pub returns-then-not-is_connected : goal.returns-then-not-is_connected
 returns-then-not-is_connected c =
     c.file.ensures
     ∙ unlit _ _ _ _ _ _ c.requires c.absolute-energy.ensures
-    c.of-none.ensures c.is_connected.ensures (not-true _ c.if-not-is_connected.true)
+    c.of-none.ensures c.is_connected.ensures c.if-not-is_connected.true
 
 pub returns-in-Active : goal.returns-in-Active
 returns-in-Active c =
     c.file-in-Active.ensures
     ∙ lit_active _ _ _ _ _ _ c.requires c.absolute-energy.ensures
     c.of-none.ensures c.is_connected.ensures
-    c.in-Active.is (not-false _ c.if-not-is_connected.false) _ c.active.ensures
+    c.in-Active.is c.if-not-is_connected.false _ c.active.ensures
 
 pub returns-in-SemiActive : goal.returns-in-SemiActive
 returns-in-SemiActive c =
     c.file-in-SemiActive.ensures
     ∙ lit_semi_active _ _ _ _ _ _ c.requires c.absolute-energy.ensures
     c.of-none.ensures c.is_connected.ensures
-    _ c.in-SemiActive.is (not-false _ c.if-not-is_connected.false) _ c.exceeds.ensures
-    _ c.semi_active_lem.ensures _ c.allowance-allowance.ensures _ c.minus.ensures
+    _ c.in-SemiActive.is c.if-not-is_connected.false _ c.exceeds.ensures
+    _ c.semi_active.ensures _ c.allowance-allowance.ensures _ c.minus.ensures

@@ -7,5 +7,5 @@ use Rattle.quarter_cases.proofs.calls.show_in.Goals as goal
 
 pub slice_bounds-lent-end-2 : goal.slice_bounds-lent-end-2
 slice_bounds-lent-end-2 c =
-    let n = c.args.t1 in
+    let n = c.args.c in
     sym (length-take-le (get_or n 8 0) c.args.buffer.now c.if-buffer-n.false)

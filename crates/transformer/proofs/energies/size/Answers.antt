@@ -12,10 +12,10 @@ pub overflow_cast-result : goal.overflow_cast-result
 overflow_cast-result c = negative_cast c.args.number c.ranges.number c.if-wide-lt0.true
 
 pub returns-then-wide-lt0 : goal.returns-then-wide-lt0
-returns-then-wide-lt0 c = negative_size c.args.number c.ranges.number c.if-wide-lt0.true
+returns-then-wide-lt0 c = let k = negative_size c.args.number c.ranges.number c.if-wide-lt0.true in record { value = k.0; upper_bound = k.1 }
 
 pub overflow_cast-result-2 : goal.overflow_cast-result-2
 overflow_cast-result-2 c = other_cast c.args.number c.ranges.number c.if-wide-lt0.false
 
 pub returns : goal.returns
-returns c = other_size c.args.number c.ranges.number c.if-wide-lt0.false
+returns c = let k = other_size c.args.number c.ranges.number c.if-wide-lt0.false in record { value = k.0; upper_bound = k.1 }

@@ -8,7 +8,7 @@ use Rattle.transformer.proofs.loss.loss.Goals as goal
 pub returns : goal.returns
 returns c =
     let a = c in
-    loss-found a.args.low a.args.sheet a.requires _ _ _ c.squared_energy-squares.ensures c.root.ensures.value c.nearest.ensures
+ let k = loss-found a.args.low a.args.sheet a.requires _ _ _ c.squared_energy-squares.ensures c.root.ensures.value c.nearest.ensures in record { value = k.0; upper_bound = k.1 }
 
 pub root-requires : goal.root-requires
 root-requires c =

@@ -4,4 +4,4 @@ use Rattle.transformer.proofs.Signs.{range_tested}
 use Rattle.transformer.proofs.ranges.energy_in_range.Goals as goal
 
 pub returns : goal.returns
-returns c = range_tested c.args.energy _ (to_z-of_z c.fits.energy)
+returns c = range_tested c.args.energy _ (to_z-of_z c.ranges.energy)

@@ -8,7 +8,7 @@ use Rattle.transformer.proofs.root.bisected.Goals as goal
 pub returns : goal.returns
 returns c =
     let l = c.loop-low in
-    narrowest _ _ l.low l.high l.invariant c.loop-low-test.false
+ let k = narrowest _ _ l.low l.high l.invariant c.loop-low-test.false in record { sn_bound_2 = k.0; radicand_bound_2 = k.1.0; upper_bound = k.1.1 }
 
 pub loop-low-init : goal.loop-low-init
 loop-low-init c = (omega arith, (c.requires.radicand_bound, (omega arith, omega arith)))

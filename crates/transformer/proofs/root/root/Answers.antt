@@ -11,7 +11,7 @@ returns c =
     let a = c in
     let s = sheet a.args.sheet a.requires.sheet_value in
     let r = c.bisected.ensures in
- record { value = root_is a.args.sheet s.some _ r.0 r.1.0; upper_bound = r.1.1 }
+ record { value = root_is a.args.sheet s.some _ r.sn_bound_2 r.radicand_bound_2; upper_bound = r.upper_bound }
 
 pub overflow_mul-uk-2 : goal.overflow_mul-uk-2
 overflow_mul-uk-2 c =

@@ -29,4 +29,4 @@ returns c =
     let l = c.loop-rest in
     let count = c.digits.ensures in
     let stored = digit_last l.self.bytes _ l.rest (omega arith) ∙ l.invariant.1.1 in
- record { behind = record { stored = stored; longer = omega (arith, l.invariant.1.0, count.0) }; length_bound = omega (arith, l.invariant.1.0, count.1) }
+ record { behind = record { stored = stored; longer = omega (arith, l.invariant.1.0, count.value) }; length_bound = omega (arith, l.invariant.1.0, count.upper_bound) }
