@@ -14,7 +14,7 @@ use Rattle.basic_tariff.specs.BasicTariff.{Point, point_at, energy_out_of_range,
 -- a point that is not turned away
 pub record Energies (p : Point) : Type 0 where
   pub drawn : p.drawn ≤ 1000000000000
-  pub fed_in_lem : p.fed_in ≤ 1000000000000
+  pub fed_in : p.fed_in ≤ 1000000000000
   pub some : 0 < p.drawn + p.fed_in
 
 not_idle : (d f : ℕ) → (eqb d 0 && eqb f 0) ≡ false → 0 < d + f
@@ -29,7 +29,7 @@ energies p h =
     let each = neither (energy_out_of_range p.drawn) (energy_out_of_range p.fed_in) most.0 in
     record {
       drawn = ltb-false 1000000000000 p.drawn each.0;
-      fed_in_lem = ltb-false 1000000000000 p.fed_in each.1;
+      fed_in = ltb-false 1000000000000 p.fed_in each.1;
       some = not_idle p.drawn p.fed_in most.1;
     }
 
@@ -38,7 +38,7 @@ pub record Call (t n : ℕ) (ds fs : List ℕ) : Type 0 where
   pub tariff : t ≤ 100000000
   pub count : n ≤ 8
   pub drawn : n ≤ length ds
-  pub fed_in_lem : n ≤ length fs
+  pub fed_in : n ≤ length fs
 
 pub call : (tariff n : ℕ) (drawn fed_in : List ℕ) → call_refused tariff n drawn fed_in ≡ false → Call tariff n drawn fed_in
 unfolding call_refused
@@ -51,7 +51,7 @@ call tariff n drawn fed_in h =
       tariff = ltb-false 100000000 tariff d.0;
       count = ltb-false 8 n c.1;
       drawn = ltb-false (length drawn) n b.1;
-      fed_in_lem = ltb-false (length fed_in) n a.1;
+      fed_in = ltb-false (length fed_in) n a.1;
     }
 
 -- A call that is not turned away, nor any of its points.

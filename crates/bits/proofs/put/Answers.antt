@@ -18,5 +18,5 @@ returns c =
     let s = b.span_of-span in
     let w = b.load-word in
     patched_stored a.bytes.now a.at a.width w.result s.result s.ensures (omega arith) w.ensures a.value b.ones.result
-    (omega arith) (omega arith) b.ones.ensures (λ k. (b.type_inv.bytes k).fits)
+    (omega arith) (omega arith) b.ones.ensures (λ k. (b.slice_known-1.given k).fits)
     c.store.new.bytes c.store.ensures

@@ -8,4 +8,4 @@ pub returns : goal.returns
 returns c =
     let s = c in
     let a = s.args in
-    word_stored a.bytes.now _ a.at a.word (λ k. (s.type_inv.bytes k).fits) (omega arith) (omega arith) s.store.ensures
+    word_stored a.bytes.now _ a.at a.word (λ k. (s.slice_known-1.given k).fits) (omega arith) (omega arith) s.store.ensures

@@ -21,7 +21,7 @@ unfolding header_given read_header
 returns-then-opens-header_in_range c =
     let s = c in
     let t = s in
-    accepted header_kind (λ h. (0, h)) (2, no_header) t.args.bytes.now t.if-bytes-ne7.false s.read_fields.new.1.1.0
+    accepted header_kind (λ h. (0, h)) (2, no_header) t.args.bytes.now t.if-bytes-ne7.false s.read_fields.new.values
     s.read_fields.ensures.values_after c.header_of-header.ensures c.header_in_range.ensures c.if-opens-header_in_range.true
 
 pub returns : goal.returns
@@ -29,5 +29,5 @@ unfolding header_given read_header
 returns c =
     let s = c in
     let t = s in
-    turned_down header_kind (λ h. (0, h)) (2, no_header) t.args.bytes.now t.if-bytes-ne7.false s.read_fields.new.1.1.0
+    turned_down header_kind (λ h. (0, h)) (2, no_header) t.args.bytes.now t.if-bytes-ne7.false s.read_fields.new.values
     s.read_fields.ensures.values_after c.header_of-header.ensures c.header_in_range.ensures c.if-opens-header_in_range.false

@@ -21,7 +21,7 @@ unfolding point_given read_point
 returns-then-point_in_range c =
     let s = c in
     let t = s in
-    accepted point_kind (λ p. (0, p)) (4, no_point) t.args.bytes.now t.if-bytes-ne21.false s.read_fields.new.1.1.0
+    accepted point_kind (λ p. (0, p)) (4, no_point) t.args.bytes.now t.if-bytes-ne21.false s.read_fields.new.values
     s.read_fields.ensures.values_after c.point_of-point.ensures c.point_in_range.ensures c.if-point_in_range.true
 
 pub returns : goal.returns
@@ -29,5 +29,5 @@ unfolding point_given read_point
 returns c =
     let s = c in
     let t = s in
-    turned_down point_kind (λ p. (0, p)) (4, no_point) t.args.bytes.now t.if-bytes-ne21.false s.read_fields.new.1.1.0
+    turned_down point_kind (λ p. (0, p)) (4, no_point) t.args.bytes.now t.if-bytes-ne21.false s.read_fields.new.values
     s.read_fields.ensures.values_after c.point_of-point.ensures c.point_in_range.ensures c.if-point_in_range.false

@@ -7,13 +7,13 @@ use Rattle.point_record.specs.Point.{point_values}
 use Rattle.point_record.proofs.point_values.Goals as goal
 
 pub overflow_cast-result-11 : goal.overflow_cast-result-11
-overflow_cast-result-11 c = omega (arith, c.struct-known11.given.1.1.1.1.1.1.0.1)
+overflow_cast-result-11 c = omega (arith, c.struct_known-11-1.given.1.1.1.1.1.1.0.1)
 
 pub overflow_cast-result-12 : goal.overflow_cast-result-12
-overflow_cast-result-12 c = omega (arith, c.struct-known12.given.1.1.1.1.1.1.1.0)
+overflow_cast-result-12 c = omega (arith, c.struct_known-12-1.given.1.1.1.1.1.1.1.0)
 
 pub overflow_cast-result-13 : goal.overflow_cast-result-13
-overflow_cast-result-13 c = omega (arith, c.struct-known13.given.1.1.1.1.1.1.1.0)
+overflow_cast-result-13 c = omega (arith, c.struct_known-13-1.given.1.1.1.1.1.1.1.0)
 
 pub returns : goal.returns
 returns c =

@@ -24,4 +24,4 @@ returns-in-SemiActive c =
     ∙ lit_semi_active _ _ _ _ _ _ c.requires c.absolute-energy.ensures
     c.of-none.ensures c.is_connected.ensures
     _ c.in-SemiActive.is c.if-not-is_connected.false _ c.exceeds.ensures
-    _ c.semi_active.ensures _ c.allowance-allowance.ensures _ c.minus.ensures
+    _ c.semi_active-class.ensures _ c.allowance-allowance.ensures _ c.minus.ensures

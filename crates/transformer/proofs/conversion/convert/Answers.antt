@@ -31,6 +31,6 @@ pub returns : goal.returns
 returns c =
     let s = c in
     let a = s.args in
-    let reactive = to_z-of_z {w = w32} {z = a.low.reactive} (record { sfits = c.type_inv.low.1.0.1 }) in
+    let reactive = to_z-of_z {w = w32} {z = a.low.reactive} (record { sfits = c.struct_told-1.given.1.0.1 }) in
     converts a.low a.sheet _ _ s.in_range.ensures (ap not s.if-not-in_range.false) _
     s.is_implausible.ensures s.if-is_implausible.false _ _ reactive c.loss.ensures.value c.high_side.ensures

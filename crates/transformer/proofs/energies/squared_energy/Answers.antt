@@ -22,8 +22,8 @@ overflow_add-result c = record { fits = omega (arith, mul-le-mul c.size-active.e
 pub returns : goal.returns
 returns c =
     let low = c.args.low in
-    let active = to_z-of_z {w = w32} {z = low.active} (record { sfits = c.type_inv.low.0.1 }) in
-    let reactive = to_z-of_z {w = w32} {z = low.reactive} (record { sfits = c.type_inv.low.1.0.1 }) in
+    let active = to_z-of_z {w = w32} {z = low.active} (record { sfits = c.struct_told-1.given.0.1 }) in
+    let reactive = to_z-of_z {w = w32} {z = low.reactive} (record { sfits = c.struct_told-2-1.given.1.0.1 }) in
     ap₂ (λ (x y : ℕ). x * x + y * y)
     (c.size-active.ensures.value ∙ ap nat_abs active)
     (c.size-reactive.ensures.value ∙ ap nat_abs reactive)
