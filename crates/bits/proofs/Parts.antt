@@ -1,4 +1,4 @@
--- Parts of a slice that code lends: `&s[a..a + n]` to read, and `&mut s[a..]` to copy into. Assumes nothing.
+-- Parts of a slice that code lends: `&s[a..a + n]` to read, and `&mut s[a..a + n]` to copy over. Assumes nothing.
 use Prim.Native.Nat.{ℕ, ◌+◌, ◌-◌}
 use mathlib.Core.Path.{◌≡◌, sym, ap, ◌∙◌}
 use mathlib.Core.List.{List, [], ◌++◌, append_assoc, append-nil}
@@ -12,16 +12,10 @@ part a n l =
     let e : a + n - a ≡ n = omega arith in
     ap (λ (k : ℕ). take k (drop a l)) e
 
--- n elements of s copied to the front of what stands from a on: ys, which is put back
-pub copied : (l s ys : List ℕ) (a n : ℕ) → ys ≡ take n s ++ drop n (take (length l - a) (drop a l))
-    → take a l ++ (ys ++ drop (length l - a) (drop a l)) ≡ paste l a s n
-copied l s ys a n e =
-    let size = length-drop a l in
-    rw (
-      e,
-      take_all (length l - a) (drop a l) (omega arith),
-      drop_of_length-le (drop a l) {i = length l - a} (omega arith),
-      append-nil (take n s ++ drop n (drop a l)),
-      drop-drop n a l,
-    )
-    (sym (append_assoc (take a l) (take n s) (drop (a + n) l)))
+-- s, of n elements, copied over the n from a on: ys, which is put back
+pub copied : (l s ys : List ℕ) (a n : ℕ) → length s ≡ n → ys ≡ s → take a l ++ (ys ++ drop (a + n - a) (drop a l)) ≡ paste l a s n
+copied l s ys a n size e =
+    let k : a + n - a ≡ n = omega arith in
+    let whole = take_all n s (omega (arith, size)) in
+    rw (e, k, drop-drop n a l)
+    (sym (append_assoc (take a l) s (drop (a + n) l)) ∙ ap (λ (x : List ℕ). (take a l ++ x) ++ drop (a + n) l) (sym whole))

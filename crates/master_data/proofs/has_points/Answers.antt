@@ -10,7 +10,6 @@ use borrow.Author.Tests.{not-true, not-false}
 use Rattle.quarter.specs.Reading.{level_of}
 use Rattle.lists.specs.Lists.{all_of}
 use Rattle.lists.proofs.Laws.{all_next, all_stop}
-use Rattle.master_data.proofs.Ranged.{eight}
 use Rattle.refusals.proofs.Tests.{not_not}
 use mathlib.Core.Bool.{true}
 use native.Mathlib.Omega.{arith}
@@ -28,7 +27,7 @@ returns-then-not-point_in_range c =
     let s = c in
     let l = c.loop-i in
     let b = s.args.master in
-    let n : length b.points ≡ 8 = eight b.points s.well_formed.0.1.1.1.1.1.0.1.0.1 in
+    let n : length b.points ≡ 8 = s.well_formed.0.1.1.1.1.1.0.1.0.1 in
     let e : point_in_range (get_or b.points l.i no_point) ≡ false = sym c.point_in_range.ensures ∙ c.if-not-point_in_range.true in
     rw (all_stop point_in_range no_point b.points l.i b.count (omega arith) (omega arith) e)
 
@@ -38,7 +37,7 @@ loop-i-preserved c =
     let s = c in
     let l = c.loop-i in
     let b = s.args.master in
-    let n : length b.points ≡ 8 = eight b.points s.well_formed.0.1.1.1.1.1.0.1.0.1 in
+    let n : length b.points ≡ 8 = s.well_formed.0.1.1.1.1.1.0.1.0.1 in
     let e : point_in_range (get_or b.points l.i no_point) ≡ true = sym c.point_in_range.ensures ∙ c.if-not-point_in_range.false in
     (omega arith, all_next point_in_range no_point b.points l.i (omega arith) l.invariant.1 e)
 

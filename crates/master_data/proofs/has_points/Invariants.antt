@@ -10,7 +10,6 @@ use borrow.Author.Tests.{not-true, not-false}
 use Rattle.quarter.specs.Reading.{level_of}
 use Rattle.lists.specs.Lists.{all_of}
 use Rattle.lists.proofs.Laws.{all_next, all_stop}
-use Rattle.master_data.proofs.Ranged.{eight}
 use Rattle.refusals.proofs.Tests.{not_not}
 use mathlib.Core.Bool.{true}
 use native.Mathlib.Omega.{arith}
