@@ -1,5 +1,4 @@
 -- `opening::fresh` meets its contract.
-use borrow.Author.Rules.{rules}
 use Rattle.opening.proofs.fresh.Goals as goal
 
 pub returns : goal.returns
