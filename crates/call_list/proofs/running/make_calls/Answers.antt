@@ -10,21 +10,9 @@ use Rattle.call_list.proofs.running.make_calls.Goals as goal
 pub loop-init : goal.loop-init
 loop-init c = none_made _ _ _ _ (guarded _ _ c.requires.index_value)
 
-pub shape_of-journal-then-size-eq0 : goal.shape_of-journal-then-size-eq0
-shape_of-journal-then-size-eq0 c = c.loop.invariant.journal-size
-
-pub shape_of-index-then-size-eq0 : goal.shape_of-index-then-size-eq0
-shape_of-index-then-size-eq0 c = c.loop.invariant.places
-
-pub shape_of-output-then-size-eq0 : goal.shape_of-output-then-size-eq0
-shape_of-output-then-size-eq0 c = c.loop.invariant.size
-
 pub returns-then-size-eq0 : goal.returns-then-size-eq0
 returns-then-size-eq0 c =
     all_given c.loop.invariant (calls-none _ _ _ (sym c.size_at-size.ensures ∙ c.if-size-eq0.true))
-
-pub room_at-room-requires : goal.room_at-room-requires
-room_at-room-requires c = omega (arith, c.if-size-eq0.false, c.size_at-size.ensures)
 
 pub answer_call-book-requires : goal.answer_call-book-requires
 answer_call-book-requires c =
@@ -39,18 +27,12 @@ pub overflow_add-to : goal.overflow_add-to
 overflow_add-to c =
     let sized = c.size_at-size.ensures in
     let room = has_room c.loop.invariant c.loop-test.true _ sized (omega (arith, c.if-size-eq0.false)) c.requires.script_in_bounds in
-    omega (arith, room, c.room_at-room.ensures.value, c.loop.invariant.size, c.well_formed.1.1.1.1.0.0)
+    omega (arith, room, c.room_at-room.ensures.value, c.loop.invariant.size)
 
 pub overflow_add-at : goal.overflow_add-at
 overflow_add-at c =
     let end = inside c.loop.invariant c.loop-test.true _ c.size_at-size.ensures (omega (arith, c.if-size-eq0.false)) in
     omega (arith, end)
-
-pub overflow_step : goal.overflow_step
-overflow_step c = omega (arith, c.loop-test.true)
-
-pub loop-smaller : goal.loop-smaller
-loop-smaller c = omega (arith, c.loop-test.true)
 
 pub loop-preserved : goal.loop-preserved
 loop-preserved c =
@@ -58,15 +40,6 @@ loop-preserved c =
     goes_on c.loop.invariant c.loop-test.true _ c.size_at-size.ensures (omega (arith, c.if-size-eq0.false))
     c.requires.script_in_bounds _ _ _ _ c.room_at-room.ensures.value e.value e.index_after e.output_after
     (search rules) (search rules) (search rules)
-
-pub shape_of-journal : goal.shape_of-journal
-shape_of-journal c = c.loop.invariant.journal-size
-
-pub shape_of-index : goal.shape_of-index
-shape_of-index c = c.loop.invariant.places
-
-pub shape_of-output : goal.shape_of-output
-shape_of-output c = c.loop.invariant.size
 
 pub returns : goal.returns
 returns c = all_given c.loop.invariant (calls_end c.args.script.now c.loop.counter c.loop.at c.loop-test.false)
