@@ -21,25 +21,28 @@ alone b l totals h = absurd (omega arith)
 module _ (b : Book) (l : Lent) (c : Call) (out : List ℕ) (to : ℕ) where
   -- the book, what is lent and the slice are as the call leaves them
   abbrev pub Left : Book → Lent → List ℕ → Type 0
-  Left b' l' xs = (b' ≡ (after b l c).book) × ((l' ≡ (after b l c).lent) × (xs ≡ with_words out to (numbers (answer b l c))))
+  Left b' l' xs =
+      record {
+        value : b' ≡ (after b l c).book;
+        index_after : l' ≡ (after b l c).lent;
+        output_after : xs ≡ with_words out to (numbers (answer b l c));
+      }
 
   -- totals, with what it gave in the slice
   pub totals_left : totals ≡ c → (a : Answer) (xs : List ℕ) → a ≡ totals_given b l → xs ≡ with_words out to (numbers a) → Left b l xs
-  totals_left e a xs g p = (
-    ap (λ (d : Call). (after b l d).book) e,
-    (
-      ap (λ (d : Call). (after b l d).lent) e,
-      p ∙ ap (λ (x : Answer). with_words out to (numbers x)) (g ∙ ap (answer b l) e),
-    ),
-  )
+  totals_left e a xs g p =
+      record {
+        value = ap (λ (d : Call). (after b l d).book) e;
+        index_after = ap (λ (d : Call). (after b l d).lent) e;
+        output_after = p ∙ ap (λ (x : Answer). with_words out to (numbers x)) (g ∙ ap (answer b l) e);
+      }
 
   -- any other call, with its number in the slice
   pub change_left : 8 ≡ room c → (o : Outcome) (xs : List ℕ) → o ≡ after b l c → xs ≡ with_words out to (o.number ∷ [])
       → Left o.book o.lent xs
-  change_left h o xs e p = (
-    ap (λ (x : Outcome). x.book) e,
-    (
-      ap (λ (x : Outcome). x.lent) e,
-      p ∙ ap (with_words out to) (ap (λ (x : Outcome). x.number ∷ []) e ∙ alone b l c h),
-    ),
-  )
+  change_left h o xs e p =
+      record {
+        value = ap (λ (x : Outcome). x.book) e;
+        index_after = ap (λ (x : Outcome). x.lent) e;
+        output_after = p ∙ ap (with_words out to) (ap (λ (x : Outcome). x.number ∷ []) e ∙ alone b l c h);
+      }

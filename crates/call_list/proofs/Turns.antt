@@ -73,24 +73,31 @@ none_made script b l out s =
     }
 
 -- A turn, with book, what is lent and answers as they are before it.
-module _ (script : List ℕ) (b₀ : Book) (l₀ : Lent) (out₀ : List ℕ) (b : Book) (l : Lent) (out : List ℕ) (i at end : ℕ)
+module _ {script : List ℕ} {b₀ : Book} {l₀ : Lent} {out₀ : List ℕ} {b : Book} {l : Lent} {out : List ℕ} {i at end : ℕ}
     (t : Turns script b₀ l₀ out₀ b l out i at end) where
   -- What is given at the end, where no call is left.
   module _ (none : calls_from (length script - i) script at ≡ []) where
-    pub all_room : end ≡ room_of (calls script)
+    all_room : end ≡ room_of (calls script)
     unfolding room_of
     all_room = omega (arith, t.room, ap room_of none)
 
-    pub all_lent : l ≡ (library.run b₀ l₀ (calls script)).lent
+    all_lent : l ≡ (library.run b₀ l₀ (calls script)).lent
     unfolding library.run
     all_lent = ap (λ (cs : List Call). (library.run b l cs).lent) (sym none) ∙ t.lent
 
-    pub all_answers : out ≡ with_words out₀ 0 (all_numbers (library.answers b₀ l₀ (calls script)))
+    all_answers : out ≡ with_words out₀ 0 (all_numbers (library.answers b₀ l₀ (calls script)))
     unfolding library.answers all_numbers
     all_answers =
         sym (with_none out end)
         ∙ ap (λ (cs : List Call). with_words out end (all_numbers (library.answers b l cs))) (sym none)
         ∙ t.answers
+
+    pub all_given : record {
+      value : end ≡ room_of (calls script);
+      index_after : l ≡ (library.run b₀ l₀ (calls script)).lent;
+      output_after : out ≡ with_words out₀ 0 (all_numbers (library.answers b₀ l₀ (calls script)));
+    }
+    all_given = record { value = all_room; index_after = all_lent; output_after = all_answers }
 
   -- A call of this size is left, whose answer takes this room.
   module _ (some : i < length script) (size : ℕ) (measured : size ≡ size_at script at) (whole : 0 < size) where

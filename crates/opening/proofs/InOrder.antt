@@ -28,16 +28,31 @@ use Rattle.opening.proofs.Reading.{with_zeros, length-points}
 
 -- A refusal with this answer, beside the void book.
 abbrev pub Refusal : Answer → Reply → Type 0
-Refusal a r = (r.answer ≡ a) × (r.book ≡ void)
+Refusal a r = record { answer_value : r.answer ≡ a; book_value : r.book ≡ void }
+
+-- The first n points of the file were read, if they are right.
+abbrev pub PointsRight : ℕ → List ℕ → Bool → List Point → Type 0
+PointsRight n file right ps =
+    record { right_value : right ≡ not (any_wrong n file); points_value : right ≡ true → ps ≡ with_zeros n file }
 
 -- What open gives for the file and the index, and what is left of the index.
 abbrev pub Opens : List ℕ → List ℕ → Reply → List ℕ → Type 0
-Opens file x r left = (number_of r.answer ≡ opening_number file x) × ((r.book ≡ opened_book file x) × (left ≡ opened_index file x))
+Opens file x r left =
+    record {
+      answer_value : number_of r.answer ≡ opening_number file x;
+      book_value : r.book ≡ opened_book file x;
+      index_after : left ≡ opened_index file x;
+    }
 
 -- a refusal is what open gives where its number is the file's
 refuses : (file x : List ℕ) (a : Answer) → 0 < number_of a → opening_number file x ≡ number_of a → (r : Reply) → Refusal a r → Opens file x r x
 unfolding opened_book opened_index
-refuses file x a p e r h = (ap number_of h.0 ∙ sym e, (h.1 ∙ rw (e, refuse p), rw (e, refuse p)))
+refuses file x a p e r h =
+    record {
+      answer_value = ap number_of h.answer_value ∙ sym e;
+      book_value = h.book_value ∙ rw (e, refuse p);
+      index_after = rw (e, refuse p);
+    }
 
 -- the points of a file with zeros in the places past them
 padded-points : (n : ℕ) (file : List ℕ) → with_zeros n file ≡ padded (first_points n file)
@@ -98,14 +113,14 @@ module _ (file x : List ℕ) where
 
       -- The length is right, and the points are read.
       module _ (l : length file ≡ size) (right : Bool) (ps : List Point)
-          (read : (right ≡ not (any_wrong h.points file)) × (right ≡ true → ps ≡ with_zeros h.points file)) where
+          (read : PointsRight h.points file right ps) where
         -- 4 is left, where they are not right, and 17
         points_tested : opening_number file x ≡ cond (not right) 4 (cond (short_index h.points x) 17 0)
         points_tested =
             header-passed
             ∙ skip 3 _ (length_tested ∙ ap not (eq-eqb (length file) size l))
             ∙ ap (λ (y : Header). cond (any_wrong y.points file) 4 (cond (short_index y.points x) 17 0)) header_read.1
-            ∙ ap (λ (w : Bool). cond w 4 (cond (short_index h.points x) 17 0)) (sym (ap not read.0 ∙ not_not (any_wrong h.points file)))
+            ∙ ap (λ (w : Bool). cond w 4 (cond (short_index h.points x) 17 0)) (sym (ap not read.right_value ∙ not_not (any_wrong h.points file)))
 
         -- 4: a wrong point
         pub wrong_point_lem : not right ≡ true → (r : Reply) → Refusal WrongPoint r → Opens file x r x
@@ -124,8 +139,10 @@ module _ (file x : List ℕ) where
           accepts w r f left e =
               let n : opening_number file x ≡ 0 = points_tested ∙ skip 4 _ t ∙ skip 17 0 w in
               let m : fresh_of (master_of h ps) ≡ fresh_of (master_of (header file) (padded (points file))) =
-              ap (λ (l : List Point). fresh_of (master_of h l)) (read.1 (not-false right t) ∙ padded-points h.points file)
-              ∙ ap (λ (y : Header). fresh_of (master_of y (padded (first_points y.points file)))) (sym header_read.1) in (
-                ap (λ (y : Reply). number_of y.answer) f ∙ sym n,
-                (ap (λ (y : Reply). y.book) f ∙ m ∙ rw n, e ∙ ap (λ (y : Header). cleared y.points x) (sym header_read.1) ∙ rw n),
-              )
+              ap (λ (l : List Point). fresh_of (master_of h l)) (read.points_value (not-false right t) ∙ padded-points h.points file)
+              ∙ ap (λ (y : Header). fresh_of (master_of y (padded (first_points y.points file)))) (sym header_read.1) in
+              record {
+                answer_value = ap (λ (y : Reply). number_of y.answer) f ∙ sym n;
+                book_value = ap (λ (y : Reply). y.book) f ∙ m ∙ rw n;
+                index_after = e ∙ ap (λ (y : Header). cleared y.points x) (sym header_read.1) ∙ rw n;
+              }

@@ -1,16 +1,13 @@
 -- `opening::read_points` meets its contract.
-use Prim.Native.Nat.{◌-◌, ◌≤◌}
-use mathlib.Core.Path.{◌≡◌, refl, ap, ◌∙◌}
-use mathlib.Core.Bool.{false, false≢true}
+use mathlib.Core.Path.{refl, ap, ◌∙◌}
+use mathlib.Core.Bool.{false≢true}
 use mathlib.Core.List.{List}
 use lib.ListN.{set}
-use borrow.Author.Rules.{rules}
 use native.Mathlib.Omega.{arith}
 use Rattle.lists.specs.Lists.{any_below, places_below}
-use Rattle.opening.specs.Opening.{any_wrong}
 use Rattle.point_record.specs.declared.Point.{Point}
 use Rattle.point_record.proofs.Laws.{point-decoded}
-use Rattle.opening.proofs.Reading.{with_zeros, zeros_next, right_next, wrong_here, all_read}
+use Rattle.opening.proofs.Reading.{zeros_next, right_next, wrong_here, all_read}
 use Rattle.opening.proofs.read_points.Goals as goal
 
 pub loop-i-init : goal.loop-i-init
@@ -19,21 +16,19 @@ loop-i-init c = (omega arith, (refl, rw c.no_point-none.ensures))
 
 pub returns-in_default : goal.returns-in_default
 returns-in_default c =
-    let a = c.args in
-    let l = c.loop-i in
-    let w = wrong_here l.i a.file.now _ (point-decoded _ _ c.decode_point.ensures) c.in_default.is a.count (omega arith) in
- record { right_value = rw w; points_value = λ h. absurd (false≢true h) }
+    let w = wrong_here c.loop-i.i c.args.file.now _ (point-decoded _ _ c.decode_point.ensures) c.in_default.is c.args.count (omega arith) in
+    record { right_value = rw w; points_value = λ h. absurd (false≢true h) }
 
 pub loop-i-preserved : goal.loop-i-preserved
 loop-i-preserved c =
-    let a = c.args in
+    let file = c.args.file.now in
     let l = c.loop-i in
-    let r = right_next l.i a.file.now _ (point-decoded _ _ c.decode_point.ensures) _ c.in-Read.is l.invariant.1.0 in
-    (omega arith, (r.0, ap (λ (ps : List Point). set ps l.i c.point.given.0.0) l.invariant.1.1 ∙ zeros_next l.i a.file.now _ (omega arith) r.1))
+    let p = c.in-Read.point in
+    let r = right_next l.i file _ (point-decoded _ _ c.decode_point.ensures) p c.in-Read.is l.invariant.1.0 in
+    (omega arith, (r.0, ap (λ (ps : List Point). set ps l.i p) l.invariant.1.1 ∙ zeros_next l.i file p (omega arith) r.1))
 
 pub returns : goal.returns
 returns c =
-    let a = c.args in
     let l = c.loop-i in
-    let i : l.i ≡ a.count = omega arith in
- let k = all_read a.count l.i a.file.now l.points i l.invariant.1.0 l.invariant.1.1 in record { right_value = k.0; points_value = k.1 }
+    let k = all_read c.args.count l.i c.args.file.now l.points (omega arith) l.invariant.1.0 l.invariant.1.1 in
+    record { right_value = k.0; points_value = k.1 }

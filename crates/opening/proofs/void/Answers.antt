@@ -1,6 +1,5 @@
 -- `opening::void` meets its contract.
 use Rattle.opening.specs.Opening.{void}
-use borrow.Author.Rules.{rules}
 use Rattle.opening.proofs.void.Goals as goal
 
 pub returns : goal.returns

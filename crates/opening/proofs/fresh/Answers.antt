@@ -1,6 +1,0 @@
--- `opening::fresh` meets its contract.
-use borrow.Author.Rules.{rules}
-use Rattle.opening.proofs.fresh.Goals as goal
-
-pub returns : goal.returns
-returns c = rw c.none-nothing.ensures
