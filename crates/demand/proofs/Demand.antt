@@ -39,14 +39,15 @@ module _ {b : Book} {l : Lent} {s : State} (r : Stands b l s) where
 pub same-answers : {b : Book} {l : Lent} {s : State} → Stands b l s → (cs : List Call) → library.answers b l cs ≡ machine.answers s cs
 unfolding library.answers machine.answers
 same-answers r [] = refl
-same-answers r (c ∷ cs) = ap₂ ◌∷◌ (answered r c) (same-answers (moved r c) cs)
+same-answers {b = b} {l = l} r (c ∷ cs) =
+    ap₂ ◌∷◌ (answered r c) (same-answers {b = (after b l c).book} {l = (after b l c).lent} (moved r c) cs)
 
 -- and ends in the machine's state
 pub same_end : {b : Book} {l : Lent} {s : State} → Stands b l s → (cs : List Call)
     → Stands (library.run b l cs).book (library.run b l cs).lent (machine.run s cs)
 unfolding library.run machine.run
 same_end r [] = r
-same_end r (c ∷ cs) = same_end (moved r c) cs
+same_end {b = b} {l = l} r (c ∷ cs) = same_end {b = (after b l c).book} {l = (after b l c).lent} (moved r c) cs
 
 -- The machine "passes over 7, which no call of such a list gets", and over 17.
 

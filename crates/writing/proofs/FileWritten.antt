@@ -2,12 +2,12 @@
 use Prim.Native.Nat.{ℕ, ◌+◌, ◌-◌, ◌*◌, ◌<◌, ◌≤◌}
 use mathlib.Core.Path.{◌≡◌, refl, sym, ap, ◌∙◌}
 use mathlib.Core.Bool.{Bool, true, false, cond}
-use mathlib.Core.List.{List, [], ◌∷◌, ◌++◌, append-nil}
+use mathlib.Core.List.{List, [], ◌∷◌, ◌++◌}
 use native.Mathlib.Omega.{arith}
 use borrow.Author.Tests.{le-leb, lt-ltb, le-ltb, ltb-false, not-false}
 use lib.Dec.{ltb}
-use lib.ListN.{length, take, drop, length-append, drop_of_length-le}
-use lib.Seq.{take_all, length-take-le}
+use lib.ListN.{length, take, drop, length-append}
+use lib.Seq.{length-take-le}
 use Rattle.refusals.specs.Refusals.{first}
 use Rattle.refusals.proofs.First.{refuse, none_holds, past, decided}
 use Rattle.lists.specs.Lists.{all_of}
@@ -91,12 +91,6 @@ file_sized {b} {j} w eight =
       entries_held w,
     )
 
--- a part that all of a list of its length is copied into is that list
-copied_all : (s part ys : List ℕ) (n : ℕ) → length s ≡ n → length part ≡ n → ys ≡ take (length s) s ++ drop (length s) part → ys ≡ s
-copied_all s part ys n a b e =
-    let none : drop (length s) part ≡ [] = drop_of_length-le part {i = length s} (omega arith) in
-    e ∙ ap (λ (l : List ℕ). take (length s) s ++ l) none ∙ append-nil (take (length s) s) ∙ take_all (length s) s (omega arith)
-
 -- The three parts, on an output that has room for the file.
 module _ {b : Book} {j : List ℕ} (w : Writable b j) (out : List ℕ) (room : file_length b ≤ length out)
     (t : Bool) (hs : List ℕ) (encoded : ◌≡◌ {A = Bool × List ℕ} (t, hs) (encoded_header (header_of b) (take 7 out))) where
@@ -169,14 +163,12 @@ module _ {b : Book} {j : List ℕ} (w : Writable b j) (out : List ℕ) (room : f
         length_part pointed begin end (omega (arith, points_kept, places)) ∙ e
 
     -- and with the entries copied into it the output is the file
-    pub file_written : (es : List ℕ)
-        → let s = take (12 * b.length) j in
-        es ≡ take (length s) s ++ drop (length s) (take (end - begin) (drop begin pointed))
+    pub file_written : (es : List ℕ) → es ≡ take (12 * b.length) j
         → returned pointed begin end es ≡ file_of b j ++ drop (file_length b) out
     unfolding file_of file_length
     file_written es entries =
         part_filled out pointed front begin points-written length_front end es (omega arith)
-        ∙ ap (λ (bs : List ℕ). (front ++ bs) ++ drop end out) (copied_all _ _ es (12 * b.length) (entries_held w) entries_part entries)
+        ∙ ap (λ (bs : List ℕ). (front ++ bs) ++ drop end out) entries
 
 -- a refusal handed back
 pub refused_with_lem : {r : Written} {a : Answer} {out : List ℕ} {w : WriteResult} → r ≡ refused_with a → write_result (number_of a) 0 out ≡ w

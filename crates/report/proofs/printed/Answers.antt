@@ -1,10 +1,12 @@
 -- `report::printed` meets its contract.
 use mathlib.Core.Path.{ap, ◌∙◌}
+use Rattle.statement_text.specs.declared.Statement.{Statement}
 use Rattle.statement_text.specs.Text.{text_of, page_of}
+use Rattle.report.specs.Statement.{printed}
 use Rattle.report.proofs.printed.Goals as goal
 
 pub returns : goal.returns
 unfolding printed
 returns c =
     let page = c.text_of.ensures in
- record { value = page.value ∙ ap (λ (s : Statement). page_of (text_of s)) c.statement_of.ensures; length_in_bounds = page.length_in_bounds }
+    record { value = page.value ∙ ap (λ (s : Statement). page_of (text_of s)) c.statement_of.ensures; length_in_bounds = page.length_in_bounds }

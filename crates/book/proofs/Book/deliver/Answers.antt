@@ -1,8 +1,6 @@
 -- `book::Book::deliver` meets its contract: it tests 7 and 5, and leaves the other numbers to `file_entry`.
-use mathlib.Core.Path.{◌≡◌, sym, ap, ◌∙◌}
+use mathlib.Core.Path.{sym, ap, ◌∙◌}
 use native.Mathlib.Omega.{arith}
-use Rattle.entry_record.specs.declared.EntryAnswer.TheVariants.{Read}
-use Rattle.entry_record.specs.Entry.{decoded_entry}
 use Rattle.entry_record.proofs.Laws.{entry_decoded}
 use Rattle.answers.specs.Numbers.{number_of}
 use Rattle.answers.proofs.Refusing.{refused-number}
@@ -13,63 +11,55 @@ use Rattle.book.proofs.Deliveries.{not_read, Given, is_refused, counts, stands_b
 use Rattle.book.proofs.Numbers.{guarded, guard_refused}
 use Rattle.book.proofs.Replies.{replied}
 use Rattle.book.proofs.Sound.{Sound, journal_lawful, not_short}
-use borrow.Author.Rules.{rules}
-use Rattle.book.proofs.Book.deliver.Goals.{After-file_entry-filed, In-Accepted, In-Read-2}
+use Rattle.book.proofs.Book.deliver.Goals.{After-file_entry-filed, In-Accepted}
 use Rattle.book.proofs.Book.deliver.Goals as goal
 
 -- the book is sound
 sound : (c : In-Accepted)
-    → let s = c in
-    Sound s.args.self (lent s.args.journal.now s.args.index.now)
+    → Sound c.args.self (lent c.args.journal.now c.args.index.now)
 sound c = guarded _ _ (sym c.judge-verdict.ensures ∙ ap number_of c.in-Accepted.is)
 
--- the entry is read
-is_read : (c : In-Read-2)
-    → let s = c in
-    decoded_entry s.args.bytes.now ≡ Read c.entry.given.0.0
-is_read c = sym (entry_decoded _ _ c.decode_entry.ensures) ∙ c.in-Read.is
-
--- what filing it gave
+-- what filing the entry gave
 given : (c : After-file_entry-filed)
-    → let read = c in
-    let s = read in
-    Given s.args.self (lent s.args.journal.now s.args.index.now) s.args.bytes.now read.entry.given.0.0
-    c.file_entry-filed.result c.file_entry-filed.new.index.1.1.0 c.file_entry-filed.new.index.1.1.1.0
+    → Given c.args.self (lent c.args.journal.now c.args.index.now) c.args.bytes.now c.in-Read.entry
+    c.file_entry-filed.result c.file_entry-filed.new.journal c.file_entry-filed.new.index
 given c =
-    let read = c in
-    record { sound = sound read; read = is_read read; gave = c.file_entry-filed.ensures }
+    record {
+      sound = guarded _ _ (sym c.judge-verdict.ensures ∙ ap number_of c.in-Accepted.is);
+      read = sym (entry_decoded _ _ c.decode_entry.ensures) ∙ c.in-Read.is;
+      gave = c.file_entry-filed.ensures;
+    }
 
 pub returns-in_default : goal.returns-in_default
 returns-in_default c =
-    let q = c in
-    let j = q.judge-verdict in
-    replied c.reply.ensures (guard_refused _ _ _ _ (refused-number j.result q.in_default.not-Accepted) j.ensures)
+    let j = c.judge-verdict in
+    replied c.reply.ensures (guard_refused _ _ _ _ (refused-number j.result c.in_default.not-Accepted) j.ensures)
 
 pub returns-in_default-decode_entry : goal.returns-in_default-decode_entry
 returns-in_default-decode_entry c =
-    let q = c in
-    let decoded = q in
     replied c.reply-in_default-decode_entry.ensures
     (not_read _ _ _ (sound (goal.at.returns-in_default-decode_entry c).In-Accepted)
-    (sym (entry_decoded _ _ decoded.decode_entry.ensures) ∙ q.in_default-decode_entry.is))
+    (sym (entry_decoded _ _ c.decode_entry.ensures) ∙ c.in_default-decode_entry.is))
 
 pub file_entry-filed-requires : goal.file_entry-filed-requires
 file_entry-filed-requires c =
-    let read = c in
     let s = sound (goal.at.file_entry-filed-requires c).In-Accepted in
- record { index_value = not_short s; index_value_2 = not_unlawful _ _ _ _ (journal_lawful s); bytes_value = is_read (goal.at.file_entry-filed-requires c).In-Read-2 }
+    record {
+      index_value = not_short s;
+      index_value_2 = not_unlawful _ _ _ _ (journal_lawful s);
+      bytes_value = sym (entry_decoded _ _ c.decode_entry.ensures) ∙ c.in-Read.is;
+    }
 
 pub returns-in_default-answer : goal.returns-in_default-answer
 returns-in_default-answer c =
-    let q = c in
-    let k = q in
-    replied c.reply-in_default-answer.ensures (is_refused (given (goal.at.returns-in_default-answer c).After-file_entry-filed) (refused-number k.file_entry-filed.result.answer q.in_default-answer.not-Accepted))
+    replied c.reply-in_default-answer.ensures
+    (is_refused (given (goal.at.returns-in_default-answer c).After-file_entry-filed)
+    (refused-number c.file_entry-filed.result.answer c.in_default-answer.not-Accepted))
 
 pub found_at-replaced-requires : goal.found_at-replaced-requires
 found_at-replaced-requires c =
-    let told = c in
-    let f = told in
-    omega (arith, stands_before (given (goal.at.found_at-replaced-requires c).After-file_entry-filed) told.in-Accepted-answer.is, f.file_entry-filed.auto.1.1.1.0)
+    omega (arith, stands_before (given (goal.at.found_at-replaced-requires c).After-file_entry-filed) c.in-Accepted-answer.is,
+    c.file_entry-filed.auto.journal)
 
 pub overflow_add-longer : goal.overflow_add-longer
 overflow_add-longer c = record { fits = omega (arith, counts (given (goal.at.overflow_add-longer c).After-file_entry-filed)) }
@@ -77,11 +67,9 @@ overflow_add-longer c = record { fits = omega (arith, counts (given (goal.at.ove
 pub restated-requires : goal.restated-requires
 restated-requires c =
     let r = read_range _ _ (given (goal.at.restated-requires c).After-file_entry-filed).read in
- record { point_bound = r.point; placed = placed_read _ r; placed_2 = placed _ _ _ c.found_at-replaced.ensures }
+    record { point_bound = r.point; placed = placed_read _ r; placed_2 = placed _ _ _ c.found_at-replaced.ensures }
 
 pub returns : goal.returns
 returns c =
-    let found = c in
-    let told = found in
-    is_posted (given (goal.at.returns c).After-file_entry-filed) told.in-Accepted-answer.is found.found_at-replaced.ensures
+    is_posted (given (goal.at.returns c).After-file_entry-filed) c.in-Accepted-answer.is c.found_at-replaced.ensures
     c.restated.ensures
