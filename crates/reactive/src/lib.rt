@@ -1,5 +1,5 @@
-// The one door to C: functions on plain numbers and slices, each thin over the crate that does the
-// work. `include/reactive.h` declares the calls of the members' C program.
+// What the members' C program calls: functions on plain numbers and slices, each thin over the crate that does the
+// work. The crate `reactive_c` exports them under these names, and `include/reactive.h` declares them.
 #![tactic(auto)]
 
 mod basic_charge;

@@ -9,8 +9,7 @@ use posting::post;
 
 // Posts the file, and then asks for totals `rounds` times; what the last call gave goes into the first
 // 528 bytes of `answer`. Gives the number of post, or 13 where `answer` is shorter.
-#[unsafe(no_mangle)]
-pub extern "C" fn reactive_post_totals(
+pub fn reactive_post_totals(
     file: &[u8],
     journal: &mut [u8],
     index: &mut [u16],

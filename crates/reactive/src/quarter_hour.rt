@@ -10,8 +10,7 @@ use voltages::Voltage;
 
 // Answers 0 and puts the five shares into the first 40 bytes of `shares`; or 5 for an argument out
 // of range, or 13 for a slice under 40 bytes, and leaves the slice as it is.
-#[unsafe(no_mangle)]
-pub extern "C" fn reactive_classify(
+pub fn reactive_classify(
     role: u32,
     level: u32,
     band: u32,

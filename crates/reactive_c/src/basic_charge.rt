@@ -1,0 +1,18 @@
+// The charge for weighted supply points at the fixed basic tariff.
+ghost use Rattle.std.specs.Prelude.{◌≡◌};
+ghost use Rattle.reactive.specs.BasicCharge.{called};
+
+// Answers 0 and puts the charge into the number; or 16 for an argument out of range, a slice with fewer places than
+// points or a point that drew and fed in nothing, and leaves it as it is.
+#[unsafe(no_mangle)]
+pub extern "C" fn reactive_basic_charge(
+    fixed_tariff: u32,
+    points: u32,
+    drawn: &[u64],
+    fed_in: &[u64],
+    charge: &mut u64,
+) -> u32
+    ensures { (result, charge.new) ≡ called fixed_tariff points drawn.now fed_in.now charge.old }
+{
+    reactive::reactive_basic_charge(fixed_tariff, points, drawn, fed_in, charge)
+}

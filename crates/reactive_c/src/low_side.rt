@@ -1,0 +1,30 @@
+// A quarter-hour metered on the low-voltage side of a transformer.
+ghost use Rattle.std.specs.Prelude.{◌≡◌};
+ghost use Rattle.reactive.specs.LowSide.{metered, sheet, called};
+
+// Answers 0 and puts take and supply of the high side into the two numbers; or 14 for an argument out of range, or 15
+// for arguments that do not go together, and leaves both as they are.
+#[unsafe(no_mangle)]
+pub extern "C" fn reactive_low_side(
+    active: i32,
+    reactive: i32,
+    rated_power: u32,
+    short_circuit_voltage: u32,
+    no_load_current: u32,
+    copper_losses: u32,
+    take: &mut u32,
+    supply: &mut u32,
+) -> u32
+    ensures { (result, (take.new, supply.new)) ≡ called (metered active reactive) (sheet rated_power short_circuit_voltage no_load_current copper_losses) take.old supply.old }
+{
+    reactive::reactive_low_side(
+        active,
+        reactive,
+        rated_power,
+        short_circuit_voltage,
+        no_load_current,
+        copper_losses,
+        take,
+        supply,
+    )
+}
