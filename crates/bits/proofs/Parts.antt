@@ -1,9 +1,9 @@
 -- Parts of a slice that code lends: `&s[a..a + n]` to read, and `&mut s[a..a + n]` to copy over. Assumes nothing.
 use Prim.Native.Nat.{ℕ, ◌+◌, ◌-◌}
 use mathlib.Core.Path.{◌≡◌, sym, ap, ◌∙◌}
-use mathlib.Core.List.{List, [], ◌++◌, append_assoc, append-nil}
+use mathlib.Core.List.{List, ◌++◌, append_assoc}
 use native.Mathlib.Omega.{arith}
-use lib.ListN.{length, take, drop, length-drop, drop_of_length-le}
+use lib.ListN.{length, take, drop}
 use lib.Seq.{paste, take_all, drop-drop}
 
 -- the n elements from a on

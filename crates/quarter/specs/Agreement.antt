@@ -1,6 +1,6 @@
 -- What document 01's reading owes to source document 004, and to itself.
 -- Assumes nothing.
-use Rattle.std.specs.Prelude.{ℕ, ◌+◌, ◌*◌, ◌≤◌, ◌<◌, ◌≡◌, pos}
+use Rattle.std.specs.Prelude.{ℕ, ◌+◌, ◌*◌, ◌<◌, ◌≡◌, pos}
 use Rattle.quantity.specs.Fraction.{Fraction}
 use Rattle.quarter.specs.declared.Role.{Role}
 use Rattle.quarter.specs.declared.Role.TheVariants.{Active, SemiActive}

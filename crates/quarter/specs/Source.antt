@@ -2,7 +2,7 @@
 -- energies are in grains (1 Mvarh has 1,600,000), voltages in hundredths of a kilovolt and tariffs in 0.01 CHF/Mvarh. A
 -- difference may be negative, so the formulas are over ℤ.
 -- Assumes nothing.
-use Rattle.std.specs.Prelude.{ℕ, ◌+◌, ◌*◌, Bool, true, false, cond, ◌&&◌, List, [], ◌∷◌, ℤ, pos, nat_abs, ◌+ℤ◌, ◌-ℤ◌, ◌*ℤ◌}
+use Rattle.std.specs.Prelude.{ℕ, ◌*◌, Bool, true, false, cond, ◌&&◌, List, [], ◌∷◌, ℤ, pos, nat_abs, ◌+ℤ◌, ◌-ℤ◌, ◌*ℤ◌}
 use Rattle.std.proofs.Math.IntN.{sub_ℕ}
 use Rattle.std.specs.Int.Signed.{lt_z, le_z}
 use Rattle.quantity.specs.Fraction.{Fraction, ratio, product, sum}

@@ -7,7 +7,7 @@ use Rattle.book.specs.declared.Book.{Book}
 use Rattle.posting.specs.Posting.{posting}
 use Rattle.statement_text.specs.declared.Line.{Line}
 use Rattle.statement_text.specs.declared.Statement.{Statement}
-use Rattle.statement_total.specs.Total.{figure_of, sum, total_line}
+use Rattle.statement_total.specs.Total.{figure_of, total_line}
 use Rattle.statement_total.proofs.Sums.{total_column, none_added}
 use Rattle.report.specs.Statement.{refused_by, of_book, own_lent, statement, TotalIsSum}
 use Rattle.report.proofs.Statements.{statement_has}

@@ -1,5 +1,5 @@
 -- Fractions that reduce to others: sums, products and differences of them do, and order and rounding are the same. Assumes nothing.
-use Prim.Native.Nat.{ℕ, ◌+◌, ◌-◌, ◌*◌, ◌/◌, ◌<◌}
+use Prim.Native.Nat.{ℕ, ◌+◌, ◌*◌, ◌/◌, ◌<◌}
 use mathlib.Core.Path.{◌≡◌, refl, sym, ap, ◌∙◌}
 use mathlib.Core.Bool.{Bool, true, false}
 use native.Mathlib.Nat.{mul-pos, mul-sub, mul-le-mul_left, mul-lt-mul_of_pos_left, mul-div-mul_left}

@@ -1,5 +1,5 @@
 -- `bits::load` meets its contract. The invariant: the word is the field that the bytes passed make.
-use Prim.Native.Nat.{ℕ, ◌+◌, ◌*◌, ◌-◌, ◌≤◌}
+use Prim.Native.Nat.{ℕ, ◌+◌, ◌*◌}
 use mathlib.Core.Path.{◌≡◌, ap, ◌∙◌}
 use native.Mathlib.Omega.{arith}
 use Rattle.bits.specs.Fields.{field}

@@ -1,10 +1,7 @@
 -- `bits::load` meets its contract. The invariant: the word is the field that the bytes passed make.
-use Prim.Native.Nat.{ℕ, ◌+◌, ◌*◌, ◌-◌, ◌≤◌}
-use mathlib.Core.Path.{◌≡◌, ap, ◌∙◌}
-use native.Mathlib.Omega.{arith}
+use Prim.Native.Nat.{◌*◌, ◌≤◌}
+use mathlib.Core.Path.{◌≡◌}
 use Rattle.bits.specs.Fields.{field}
-use Rattle.bits.proofs.Laws.{field_lt}
-use Rattle.bits.proofs.Words.{load_byte}
 use Rattle.bits.proofs.load.Given as goal
 
 abbrev pub invariant-loop-i : goal.invariant-loop-i

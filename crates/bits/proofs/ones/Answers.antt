@@ -1,7 +1,6 @@
 -- `bits::ones` meets its contract.
 use Prim.Native.Nat.{ℕ, ◌*◌, ◌%◌, ◌^◌, ◌<◌}
 use mathlib.Core.Path.{◌≡◌}
-use borrow.Author.Rules.{rules}
 use native.Mathlib.Omega.{arith}
 use lib.Pow.{pow_pos, shl_exact}
 use Rattle.bits.proofs.ones.Goals as goal

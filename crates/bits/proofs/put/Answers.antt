@@ -1,5 +1,4 @@
 -- `bits::put` meets its contract: the word that it stores is the one loaded, with the value between the other bits.
-use borrow.Author.Rules.{rules}
 use native.Mathlib.Omega.{arith}
 use Rattle.bits.proofs.Words.{patched_lt, patched_stored}
 use Rattle.bits.proofs.put.Goals as goal
@@ -8,8 +7,11 @@ pub store-requires : goal.store-requires
 store-requires c =
     let a = c.args in
     let s = c.span_of-span in
-    let w = c.load-word in  record { count_in_bounds = omega arith; word_bound = patched_lt a.bytes.now a.at a.width w.result s.result s.ensures (omega arith) w.ensures a.value c.ones.result
-          (omega arith) (omega arith) c.ones.ensures }
+    let w = c.load-word in record {
+      count_in_bounds = omega arith;
+      word_bound = patched_lt a.bytes.now a.at a.width w.result s.result s.ensures (omega arith) w.ensures a.value c.ones.result
+          (omega arith) (omega arith) c.ones.ensures;
+    }
 
 pub returns : goal.returns
 returns c =

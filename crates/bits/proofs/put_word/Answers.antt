@@ -1,6 +1,5 @@
 -- `bits::put_word` meets its contract: the word is stored into its eight bytes.
 use native.Mathlib.Omega.{arith}
-use borrow.Author.Rules.{rules}
 use Rattle.bits.proofs.Words.{word_stored}
 use Rattle.bits.proofs.put_word.Goals as goal
 

@@ -1,9 +1,6 @@
 -- `bits::put_words` meets its contract. The invariant: the first i numbers are in place.
-use Prim.Native.Nat.{◌-◌, ◌≤◌}
-use mathlib.Core.Path.{◌≡◌, sym}
+use mathlib.Core.Path.{sym}
 use native.Mathlib.Omega.{arith}
-use lib.ListN.{length, take}
-use Rattle.bits.specs.Fields.{with_words}
 use Rattle.bits.proofs.Sequence.{with_none, length-first, first_next, first_all}
 use Rattle.bits.proofs.put_words.Goals as goal
 

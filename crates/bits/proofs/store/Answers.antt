@@ -1,9 +1,9 @@
 -- `bits::store` meets its contract. The invariant: the bytes passed hold the low bytes of the word, and the rest of it is left.
-use Prim.Native.Nat.{◌+◌, ◌-◌, ◌≤◌}
-use mathlib.Core.Path.{◌≡◌, refl, ◌∙◌}
+use Prim.Native.Nat.{◌+◌, ◌-◌}
+use mathlib.Core.Path.{refl, ◌∙◌}
 use native.Mathlib.Omega.{arith}
-use lib.ListN.{length, length-set}
-use Rattle.bits.proofs.Words.{Done, store_none, store_byte, store_all}
+use lib.ListN.{length-set}
+use Rattle.bits.proofs.Words.{store_none, store_byte, store_all}
 use Rattle.bits.proofs.store.Goals as goal
 
 pub loop-left-init : goal.loop-left-init

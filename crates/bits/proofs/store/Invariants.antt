@@ -1,9 +1,8 @@
 -- `bits::store` meets its contract. The invariant: the bytes passed hold the low bytes of the word, and the rest of it is left.
-use Prim.Native.Nat.{◌+◌, ◌-◌, ◌≤◌}
-use mathlib.Core.Path.{◌≡◌, refl, ◌∙◌}
-use native.Mathlib.Omega.{arith}
-use lib.ListN.{length, length-set}
-use Rattle.bits.proofs.Words.{Done, store_none, store_byte, store_all}
+use Prim.Native.Nat.{◌≤◌}
+use mathlib.Core.Path.{◌≡◌}
+use lib.ListN.{length}
+use Rattle.bits.proofs.Words.{Done}
 use Rattle.bits.proofs.store.Given as goal
 
 abbrev pub invariant-loop-left : goal.invariant-loop-left

@@ -1,6 +1,5 @@
 -- `calendar::days_of_month` meets its contract: each answer is a law of `proofs/Months.antt`.
 use native.Mathlib.Omega.{arith}
-use borrow.Author.Rules.{rules}
 use Rattle.calendar.proofs.Months.{long_february, short-february, thirty, thirty_one, none}
 use Rattle.calendar.proofs.days_of_month.Goals as goal
 

@@ -1,5 +1,4 @@
 -- `calendar::quarters_of_month` meets its contract: each answer is a law of `proofs/Months.antt`.
-use borrow.Author.Rules.{rules}
 use Rattle.calendar.proofs.Months.{march, october, by_days}
 use Rattle.calendar.proofs.quarters_of_month.Goals as goal
 

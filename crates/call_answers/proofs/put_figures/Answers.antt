@@ -1,5 +1,4 @@
 -- `call_answers::put_figures` meets its contract: eight numbers, one after the other.
-use borrow.Author.Rules.{rules}
 use Rattle.call_answers.proofs.Columns.{figures-stored}
 use Rattle.call_answers.proofs.put_figures.Goals as goal
 

@@ -1,7 +1,6 @@
 -- `call_script::delivery_size` meets its contract.
 use Prim.Native.Nat.{◌+◌}
 use native.Mathlib.Omega.{arith}
-use borrow.Author.Rules.{rules}
 use Rattle.call_script.proofs.Scripts.{delivery_cut, delivery_whole}
 use Rattle.call_script.proofs.delivery_size.Goals as goal
 

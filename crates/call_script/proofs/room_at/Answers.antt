@@ -13,4 +13,4 @@ returns-then-script-at-eq3 c = record { value = room-totals _ _ c.if-script-at-e
 pub returns : goal.returns
 returns c =
     let s = c in
- record { value = room_other _ _ (omega (arith, whole_kind _ _ s.requires)); upper_bound = omega arith }
+    record { value = room_other _ _ (omega (arith, whole_kind _ _ s.requires)); upper_bound = omega arith }

@@ -1,7 +1,6 @@
 -- `call_script::size_at` meets its contract.
 use mathlib.Core.Path.{◌∙◌}
 use native.Mathlib.Omega.{arith}
-use borrow.Author.Rules.{rules}
 use Rattle.call_script.proofs.Scripts.{size_past, size_delivery, size_one, size_other}
 use Rattle.call_script.proofs.size_at.Goals as goal
 

@@ -3,7 +3,6 @@ use Prim.Native.Nat.{◌*◌}
 use mathlib.Core.Path.{ap, ◌∙◌}
 use Rattle.quantity.specs.declared.Grains.{Grains}
 use Rattle.quantity.specs.Quantity.{capped, amount}
-use borrow.Author.Rules.{rules}
 use Rattle.forged_books.specs.Forged.{figures_of}
 use Rattle.forged_books.proofs.figures_of.Goals as goal
 

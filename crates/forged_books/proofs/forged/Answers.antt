@@ -1,6 +1,5 @@
 -- `forged_books::forged` meets its contract.
 use mathlib.Core.Path.{◌∙◌}
-use borrow.Author.Rules.{rules}
 use borrow.Author.Tests.{eq-eqb, ne_eqb}
 use Rattle.forged_books.specs.Forged.{forged}
 use Rattle.forged_books.proofs.forged.Goals as goal

@@ -1,5 +1,4 @@
 -- `forged_books::point_of` meets its contract.
-use borrow.Author.Rules.{rules}
 use Rattle.forged_books.specs.Forged.{point_of}
 use Rattle.forged_books.proofs.point_of.Goals as goal
 

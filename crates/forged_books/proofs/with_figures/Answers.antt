@@ -2,7 +2,6 @@
 use Prim.Native.Nat.{◌%◌}
 use lib.ListN.{set}
 use Rattle.book.specs.Library.{with_totals}
-use borrow.Author.Rules.{rules}
 use Rattle.forged_books.specs.Forged.{with_figures, at}
 use Rattle.forged_books.proofs.with_figures.Goals as goal
 

@@ -1,6 +1,5 @@
 -- `forged_books::with_month` meets its contract.
 use mathlib.Core.Path.{refl}
-use borrow.Author.Rules.{rules}
 use Rattle.forged_books.specs.Forged.{with_month}
 use Rattle.forged_books.proofs.with_month.Goals as goal
 

@@ -1,7 +1,6 @@
 -- `forged_books::with_point` meets its contract.
 use Prim.Native.Nat.{◌%◌}
 use lib.ListN.{set}
-use borrow.Author.Rules.{rules}
 use Rattle.forged_books.specs.Forged.{with_point, at, with_master}
 use Rattle.forged_books.proofs.with_point.Goals as goal
 

@@ -1,6 +1,5 @@
 -- `header_record::decode_header` meets its contract: each answer is a law of `record_fields`.
 use mathlib.Core.Path.{refl}
-use borrow.Author.Rules.{rules}
 use Rattle.header_record.specs.Header.{header_kind, no_header, header_given, read_header}
 use Rattle.record_fields.proofs.Answers.{layout, other, accepted, turned_down}
 use Rattle.header_record.proofs.Headers.{header_lawful}

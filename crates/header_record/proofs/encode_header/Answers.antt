@@ -1,5 +1,4 @@
 -- `header_record::encode_header` meets its contract: each answer is a law of `record_fields`.
-use borrow.Author.Rules.{rules}
 use Rattle.header_record.specs.Header.{header_kind, encoded_header}
 use Rattle.record_fields.proofs.Answers.{kept, fits, written}
 use Rattle.header_record.proofs.Headers.{header_lawful}
@@ -15,7 +14,7 @@ pub write_fields-requires : goal.write_fields-requires
 write_fields-requires c =
     let v = c in
     let t = v in
- let k = fits header_kind _ t.args.bytes.now t.header_in_range.ensures (ap not t.if-not-bytes-header_in_range.false) _
+    let k = fits header_kind _ t.args.bytes.now t.header_in_range.ensures (ap not t.if-not-bytes-header_in_range.false) _
     v.header_values-values.ensures header_lawful in record { layout = k.0; fit = k.1 }
 
 pub returns : goal.returns

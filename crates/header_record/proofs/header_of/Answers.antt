@@ -1,7 +1,5 @@
 -- `header_record::header_of` meets its contract: each value is one that its field holds.
-use mathlib.Core.Path.{refl}
 use native.Mathlib.Omega.{arith}
-use borrow.Author.Rules.{rules}
 use Rattle.header_record.proofs.header_of.Goals as goal
 
 pub overflow_cast-year : goal.overflow_cast-year

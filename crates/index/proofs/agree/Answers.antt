@@ -1,9 +1,7 @@
 -- `index::agree` meets its contract.
-use Prim.Native.Nat.{◌-◌, ◌≤◌}
 use mathlib.Core.Path.{◌≡◌, ap, ◌∙◌}
 use mathlib.Core.Bool.{not}
 use native.Mathlib.Omega.{arith}
-use borrow.Author.Rules.{rules}
 use Rattle.index.specs.Index.{differ, places_of}
 use Rattle.index.proofs.Comparing.{long_enough, none_differ, differ-next}
 use Rattle.index.proofs.agree.Goals as goal

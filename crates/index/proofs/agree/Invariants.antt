@@ -1,11 +1,8 @@
 -- `index::agree` meets its contract.
-use Prim.Native.Nat.{◌-◌, ◌≤◌}
-use mathlib.Core.Path.{◌≡◌, ap, ◌∙◌}
+use Prim.Native.Nat.{◌≤◌}
+use mathlib.Core.Path.{◌≡◌}
 use mathlib.Core.Bool.{not}
-use native.Mathlib.Omega.{arith}
-use borrow.Author.Rules.{rules}
-use Rattle.index.specs.Index.{differ, places_of}
-use Rattle.index.proofs.Comparing.{long_enough, none_differ, differ-next}
+use Rattle.index.specs.Index.{differ}
 use Rattle.index.proofs.agree.Given as goal
 
 abbrev pub invariant-loop-place : goal.invariant-loop-place

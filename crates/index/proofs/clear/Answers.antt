@@ -1,9 +1,8 @@
 -- `index::clear` meets its contract.
-use Prim.Native.Nat.{ℕ, ◌-◌, ◌≤◌}
+use Prim.Native.Nat.{ℕ, ◌≤◌}
 use mathlib.Core.Path.{◌≡◌, refl, ap, ◌∙◌}
 use mathlib.Core.List.{List}
 use native.Mathlib.Omega.{arith}
-use borrow.Author.Rules.{rules}
 use lib.ListN.{length, set}
 use Rattle.index.specs.Index.{places_of}
 use Rattle.index.proofs.Clearing.{zeroed, length_zeroed, zeroed_next}

@@ -1,13 +1,7 @@
 -- `index::clear` meets its contract.
-use Prim.Native.Nat.{ℕ, ◌-◌, ◌≤◌}
-use mathlib.Core.Path.{◌≡◌, refl, ap, ◌∙◌}
-use mathlib.Core.List.{List}
-use native.Mathlib.Omega.{arith}
-use borrow.Author.Rules.{rules}
-use lib.ListN.{length, set}
-use Rattle.index.specs.Index.{places_of}
-use Rattle.index.proofs.Clearing.{zeroed, length_zeroed, zeroed_next}
-use Rattle.index.proofs.Comparing.{long_enough}
+use Prim.Native.Nat.{◌≤◌}
+use mathlib.Core.Path.{◌≡◌}
+use Rattle.index.proofs.Clearing.{zeroed}
 use Rattle.index.proofs.clear.Given as goal
 
 abbrev pub invariant-loop-place : goal.invariant-loop-place

@@ -2,7 +2,6 @@
 use Rattle.refusals.proofs.Tests.{not_not}
 use mathlib.Core.Path.{sym, ◌∙◌}
 use Rattle.master_data.specs.Master.{wrong_month}
-use borrow.Author.Rules.{rules}
 use Rattle.master_data.proofs.has_month.Goals as goal
 
 pub returns : goal.returns

@@ -2,11 +2,9 @@
 use mathlib.Core.Bool.{false}
 use lib.ListN.{length, get_or}
 use Rattle.point_record.specs.Point.{no_point}
-use borrow.Author.Rules.{rules}
 use Rattle.master_data.specs.Master.{wrong_point}
-use Prim.Native.Nat.{ℕ, ◌-◌, ◌≤◌}
+use Prim.Native.Nat.{ℕ}
 use mathlib.Core.Path.{◌≡◌, refl, sym, ap, ◌∙◌}
-use borrow.Author.Tests.{not-true, not-false}
 use Rattle.quarter.specs.Reading.{level_of}
 use Rattle.lists.specs.Lists.{all_of}
 use Rattle.lists.proofs.Laws.{all_next, all_stop}

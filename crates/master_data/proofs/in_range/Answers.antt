@@ -1,7 +1,6 @@
 -- `master_data::in_range` meets its contract.
 use mathlib.Core.Path.{sym, ap, ◌∙◌}
 use mathlib.Core.Bool.{Bool, not, ◌||◌}
-use borrow.Author.Rules.{rules}
 use Rattle.refusals.proofs.Tests.{denied, granted}
 use Rattle.master_data.specs.Master.{wrong_month, wrong_point}
 use Rattle.master_data.proofs.Ranged.{count_most}

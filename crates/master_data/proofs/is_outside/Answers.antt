@@ -5,7 +5,6 @@ use mathlib.Core.Bool.{◌||◌}
 use native.Mathlib.Omega.{arith}
 use lib.Dec.{leb}
 use Rattle.master_data.proofs.Ranged.{count_most, outside_count}
-use borrow.Author.Rules.{rules}
 use Rattle.master_data.proofs.is_outside.Goals as goal
 
 pub returns : goal.returns

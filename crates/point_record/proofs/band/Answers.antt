@@ -1,6 +1,5 @@
 -- `point_record::band` meets its contract: a law of `proofs/Bands.antt`.
 use Rattle.point_record.proofs.Bands.{band_made}
-use borrow.Author.Rules.{rules}
 use Rattle.point_record.proofs.band.Goals as goal
 
 pub returns : goal.returns

@@ -1,6 +1,5 @@
 -- `point_record::decode_point` meets its contract: each answer is a law of `record_fields`.
 use mathlib.Core.Path.{refl}
-use borrow.Author.Rules.{rules}
 use Rattle.point_record.specs.Point.{point_kind, no_point, point_given, read_point}
 use Rattle.record_fields.proofs.Answers.{layout, other, accepted, turned_down}
 use Rattle.point_record.proofs.Points.{point_lawful}

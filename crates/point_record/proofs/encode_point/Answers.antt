@@ -1,5 +1,4 @@
 -- `point_record::encode_point` meets its contract: each answer is a law of `record_fields`.
-use borrow.Author.Rules.{rules}
 use Rattle.point_record.specs.Point.{point_kind, encoded_point}
 use Rattle.record_fields.proofs.Answers.{kept, fits, written}
 use Rattle.point_record.proofs.Points.{point_lawful}
@@ -15,7 +14,7 @@ pub write_fields-requires : goal.write_fields-requires
 write_fields-requires c =
     let v = c in
     let t = v in
- let k = fits point_kind _ t.args.bytes.now t.point_in_range.ensures (ap not t.if-not-bytes-point_in_range.false) _
+    let k = fits point_kind _ t.args.bytes.now t.point_in_range.ensures (ap not t.if-not-bytes-point_in_range.false) _
     v.point_values-values.ensures point_lawful in record { layout = k.0; fit = k.1 }
 
 pub returns : goal.returns

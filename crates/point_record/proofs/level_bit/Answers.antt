@@ -1,6 +1,5 @@
 -- `point_record::level_bit` meets its contract: each arm is the definition's line for its level.
 use mathlib.Core.Path.{sym, ap}
-use borrow.Author.Rules.{rules}
 use Rattle.point_record.specs.Point.{level_bit}
 use Rattle.point_record.proofs.level_bit.Goals as goal
 

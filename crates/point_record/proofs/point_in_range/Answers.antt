@@ -1,5 +1,4 @@
 -- `point_record::point_in_range` meets its contract: by definition, at the answers for the tariffs and the four places.
-use borrow.Author.Rules.{rules}
 use Rattle.point_record.specs.Point.{point_in_range}
 use Rattle.point_record.proofs.point_in_range.Goals as goal
 

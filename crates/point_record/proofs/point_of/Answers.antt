@@ -1,6 +1,5 @@
 -- `point_record::point_of` meets its contract: each value is one that its field holds.
 use native.Mathlib.Omega.{arith}
-use borrow.Author.Rules.{rules}
 use lib.Dec.{eqb}
 use lib.ListN.{get_or}
 use Rattle.point_record.proofs.point_of.Goals as goal
@@ -18,16 +17,16 @@ pub overflow_cast-penalty : goal.overflow_cast-penalty
 overflow_cast-penalty c = omega (arith, c.requires 5)
 
 pub place_of-requires : goal.place_of-requires
-place_of-requires c = let f = c.requires in  record { at_bound = omega arith; at_bound_2 = f 6; at_bound_3 = f 7 }
+place_of-requires c = let f = c.requires in record { at_bound = omega arith; at_bound_2 = f 6; at_bound_3 = f 7 }
 
 pub place_of-requires-2 : goal.place_of-requires-2
-place_of-requires-2 c = let f = c.requires in  record { at_bound = omega arith; at_bound_2 = f 8; at_bound_3 = f 9 }
+place_of-requires-2 c = let f = c.requires in record { at_bound = omega arith; at_bound_2 = f 8; at_bound_3 = f 9 }
 
 pub place_of-requires-3 : goal.place_of-requires-3
-place_of-requires-3 c = let f = c.requires in  record { at_bound = omega arith; at_bound_2 = f 10; at_bound_3 = f 11 }
+place_of-requires-3 c = let f = c.requires in record { at_bound = omega arith; at_bound_2 = f 10; at_bound_3 = f 11 }
 
 pub place_of-requires-4 : goal.place_of-requires-4
-place_of-requires-4 c = let f = c.requires in  record { at_bound = omega arith; at_bound_2 = f 12; at_bound_3 = f 13 }
+place_of-requires-4 c = let f = c.requires in record { at_bound = omega arith; at_bound_2 = f 12; at_bound_3 = f 13 }
 
 pub returns : goal.returns
 returns c =

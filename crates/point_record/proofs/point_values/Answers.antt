@@ -1,7 +1,6 @@
 -- `point_record::point_values` meets its contract: by definition, at the bit of the level.
 use mathlib.Core.Path.{ap}
 use native.Mathlib.Omega.{arith}
-use borrow.Author.Rules.{rules}
 use lib.ListN.{set}
 use Rattle.point_record.specs.Point.{point_values}
 use Rattle.point_record.proofs.point_values.Goals as goal

@@ -1,7 +1,6 @@
 -- `point_record::product` meets its contract: two answers, each a law of `proofs/Bands.antt`.
 use native.Mathlib.Omega.{arith}
 use Rattle.point_record.proofs.Bands.{product_lt, spare, in_use}
-use borrow.Author.Rules.{rules}
 use mathlib.Core.Path.{ap}
 use mathlib.Core.Bool.{not}
 use Rattle.point_record.proofs.product.Goals as goal
@@ -18,4 +17,4 @@ overflow_mul-result c =
 pub returns : goal.returns
 returns c =
     let a = c.args.place in
- record { value = in_use c.args.counts a (ap not c.if-not-counts.false); upper_bound = product_lt a.uk a.sn (omega arith) (omega arith) }
+    record { value = in_use c.args.counts a (ap not c.if-not-counts.false); upper_bound = product_lt a.uk a.sn (omega arith) (omega arith) }

@@ -1,9 +1,6 @@
 -- `record_fields::write_fields` meets its contract: the loop keeps `Writing`, of `proofs/Turns.antt`.
-use Prim.Native.Nat.{◌-◌}
 use native.Mathlib.Omega.{arith}
-use borrow.Author.Rules.{rules}
-use lib.ListN.{length}
-use Rattle.record_fields.proofs.Turns.{Writing, writing_start, writing_turn, writing_end, writing_fits, left_inside, left_narrow}
+use Rattle.record_fields.proofs.Turns.{writing_start, writing_turn, writing_end, writing_fits, left_inside, left_narrow}
 use Rattle.record_fields.proofs.write_fields.Goals as goal
 
 pub loop-i-init : goal.loop-i-init
@@ -12,7 +9,7 @@ loop-i-init c = writing_start c.requires.layout c.requires.fit
 pub put-requires : goal.put-requires
 put-requires c =
     let w = c.loop-i.invariant in
- record { width_bound = left_inside w.left (omega arith); width_bound_2 = left_narrow w.left (omega arith); value_bound = writing_fits w (omega arith) }
+    record { width_bound = left_inside w.left (omega arith); width_bound_2 = left_narrow w.left (omega arith); value_bound = writing_fits w (omega arith) }
 
 pub overflow_add-at : goal.overflow_add-at
 overflow_add-at c =

@@ -1,6 +1,5 @@
 -- `report::statement_of` meets its contract.
 use native.Mathlib.Omega.{arith}
-use borrow.Author.Rules.{rules}
 use Rattle.report.proofs.Adding.{posted_addable}
 use Rattle.report.proofs.Reporting.{too_much, shown}
 use Rattle.report.proofs.statement_of.Goals as goal

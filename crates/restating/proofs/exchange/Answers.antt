@@ -5,7 +5,6 @@ use lib.ListN.{set}
 use Rattle.worth.specs.declared.Figures.{Figures}
 use Rattle.worth.specs.Figures.{figure, each}
 use Rattle.restating.specs.Steps.{exchanged_held}
-use borrow.Author.Rules.{rules}
 use Rattle.restating.proofs.exchange.Goals as goal
 
 pub returns : goal.returns

@@ -1,6 +1,5 @@
 -- `restating::restated` meets its contract.
 use mathlib.Core.Path.{ap₂, ◌∙◌}
-use borrow.Author.Rules.{rules}
 use Rattle.restating.specs.Steps.{exchanged_at}
 use Rattle.restating.proofs.restated.Goals as goal
 

@@ -1,7 +1,6 @@
 -- `restating::worth_in` meets its contract.
 use Rattle.quarter.specs.Reading.{level_of}
 use Rattle.point_record.specs.Point.{no_point}
-use borrow.Author.Rules.{rules}
 use Rattle.restating.proofs.worth_in.Goals as goal
 
 pub returns : goal.returns

@@ -2,7 +2,6 @@
 use Rattle.restating.proofs.Found.{placed_found}
 use mathlib.Core.Path.{sym, ap, ◌∙◌}
 use Rattle.restating.specs.Steps.{worth_standing}
-use borrow.Author.Rules.{rules}
 use Rattle.restating.proofs.worth_standing.Goals as goal
 
 pub worth_in-requires : goal.worth_in-requires

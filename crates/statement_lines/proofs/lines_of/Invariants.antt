@@ -1,12 +1,9 @@
 -- `statement_lines::lines_of` meets its contract.
-use Prim.Native.Nat.{◌-◌, ◌≤◌}
-use mathlib.Core.Path.{◌≡◌, refl, ap, ◌∙◌}
-use mathlib.Core.List.{[], ◌∷◌, map}
-use native.Mathlib.Omega.{arith}
-use lib.ListN.{length, take, length-set}
-use Rattle.statement_text.specs.declared.Line.{Line}
+use Prim.Native.Nat.{◌≤◌}
+use mathlib.Core.Path.{◌≡◌}
+use mathlib.Core.List.{map}
+use lib.ListN.{length, take}
 use Rattle.statement_lines.specs.Lines.{line_of}
-use Rattle.statement_lines.proofs.Filling.{one_filled, next_filled, all_filled}
 use Rattle.statement_lines.proofs.lines_of.Given as goal
 
 abbrev pub invariant-loop-i : goal.invariant-loop-i

@@ -1,5 +1,4 @@
 -- `statement_total::plus` meets its contract.
-use mathlib.Core.Path.{refl}
 use native.Mathlib.Omega.{arith}
 use Rattle.worth.specs.Figures.{Absolute, Paid, Free, Billed, Allowance, Disconnected, Credit, Debit}
 use Rattle.statement_total.proofs.plus.Goals as goal

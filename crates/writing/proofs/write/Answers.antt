@@ -1,7 +1,6 @@
 -- `writing::write` meets its contract: the book is judged, 13 is tested, and the bytes are left to `write_file`.
 use mathlib.Core.Path.{sym, ap, ◌∙◌}
 use native.Mathlib.Omega.{arith}
-use borrow.Author.Rules.{rules}
 use Rattle.answers.specs.Numbers.{number_of}
 use Rattle.answers.proofs.Refusing.{refused-number}
 use Rattle.book.proofs.Numbers.{guarded}
@@ -42,7 +41,7 @@ write_file-requires c =
     let told = c in
     let none = sym told.judge-verdict.ensures ∙ ap number_of told.in-Accepted.is in
     let s = guarded _ _ none in
- record { master_value = s.ranged.month; master_value_2 = s.ranged.point; journal_value = is_short s; book_in_bounds = omega arith }
+    record { master_value = s.ranged.month; master_value_2 = s.ranged.point; journal_value = is_short s; book_in_bounds = omega arith }
 
 pub returns : goal.returns
 unfolding file_length

@@ -1,10 +1,7 @@
 -- `writing::write_points` meets its contract. The invariant: so many points are written.
-use Prim.Native.Nat.{◌*◌, ◌-◌, ◌≤◌}
 use mathlib.Core.Path.{◌≡◌, refl}
-use mathlib.Core.List.{◌++◌}
 use native.Mathlib.Omega.{arith}
-use borrow.Author.Rules.{rules}
-use lib.ListN.{length, take, drop}
+use lib.ListN.{length}
 use Rattle.writing.specs.Writing.{written_points}
 use Rattle.writing.proofs.PointsWritten.{length-written, written_next, written_all}
 use Rattle.writing.proofs.write_points.Goals as goal

@@ -1,6 +1,5 @@
 -- `answers::Answer::number` meets its contract: each arm gives the number of its answer.
 use mathlib.Core.Path.{sym, ap}
-use borrow.Author.Rules.{rules}
 use Rattle.answers.specs.Numbers.{number_of}
 use Rattle.answers.proofs.Answer.number.Goals as goal
 

@@ -1,6 +1,5 @@
 -- `basic_tariff::ChargeAnswer::number` meets its contract: each arm gives the number of its answer.
 use mathlib.Core.Path.{sym, ap}
-use borrow.Author.Rules.{rules}
 use Rattle.basic_tariff.specs.Numbers.{number_of}
 use Rattle.basic_tariff.proofs.ChargeAnswer.number.Goals as goal
 

@@ -1,5 +1,4 @@
 -- `basic_tariff::charge::basic_charge` meets its contract.
-use borrow.Author.Rules.{rules}
 use Rattle.basic_tariff.proofs.Refusing.{turned_away, accepted, made}
 use Rattle.basic_tariff.proofs.charge.basic_charge.Goals as goal
 

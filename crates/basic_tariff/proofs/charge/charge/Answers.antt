@@ -1,8 +1,7 @@
 -- `basic_tariff::charge::charge` meets its contract.
-use Prim.Native.Nat.{ℕ, ◌-◌, ◌*◌, ◌/◌, ◌≤◌}
+use Prim.Native.Nat.{ℕ, ◌*◌, ◌/◌}
 use mathlib.Core.Path.{◌≡◌, ap, ◌∙◌}
 use native.Mathlib.Omega.{arith}
-use borrow.Author.Rules.{rules}
 use Rattle.basic_tariff.specs.BasicTariff.{point_at, sum_of_K, charge}
 use Rattle.basic_tariff.proofs.Accepted.{call_of, point-of}
 use Rattle.basic_tariff.proofs.Cases.{k_most}

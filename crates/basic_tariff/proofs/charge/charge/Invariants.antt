@@ -1,12 +1,7 @@
 -- `basic_tariff::charge::charge` meets its contract.
-use Prim.Native.Nat.{ℕ, ◌-◌, ◌*◌, ◌/◌, ◌≤◌}
-use mathlib.Core.Path.{◌≡◌, ap, ◌∙◌}
-use native.Mathlib.Omega.{arith}
-use borrow.Author.Rules.{rules}
-use Rattle.basic_tariff.specs.BasicTariff.{point_at, sum_of_K, charge}
-use Rattle.basic_tariff.proofs.Accepted.{call_of, point-of}
-use Rattle.basic_tariff.proofs.Cases.{k_most}
-use Rattle.basic_tariff.proofs.Sums.{none_yet, sum-next, sum_most, product_fits}
+use Prim.Native.Nat.{◌≤◌}
+use mathlib.Core.Path.{◌≡◌}
+use Rattle.basic_tariff.specs.BasicTariff.{point_at, sum_of_K}
 use Rattle.basic_tariff.proofs.charge.charge.Given as goal
 
 abbrev pub invariant-loop-i : goal.invariant-loop-i

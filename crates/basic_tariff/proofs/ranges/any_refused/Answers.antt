@@ -1,8 +1,6 @@
 -- `basic_tariff::ranges::any_refused` meets its contract.
-use Prim.Native.Nat.{◌-◌, ◌≤◌}
 use mathlib.Core.Path.{◌≡◌, ap, ◌∙◌}
 use native.Mathlib.Omega.{arith}
-use borrow.Author.Rules.{rules}
 use Rattle.basic_tariff.specs.BasicTariff.{point_at, any_refused}
 use Rattle.basic_tariff.proofs.Refusing.{none_yet, next-refused}
 use Rattle.basic_tariff.proofs.ranges.any_refused.Goals as goal

@@ -15,7 +15,7 @@ unfolding call_refused
 any_refused-requires c =
     let a = c.args in
     let k = call a.fixed_tariff a.points a.drawn.now a.fed_in.now c.if-fixed_tariff-count.false in
- record { count_in_bounds = k.drawn; count_in_bounds_2 = k.fed_in }
+    record { count_in_bounds = k.drawn; count_in_bounds_2 = k.fed_in }
 
 pub returns : goal.returns
 unfolding call_refused

@@ -8,7 +8,6 @@ use Rattle.book.proofs.Closing.{closed_already, closed_now}
 use Rattle.book.proofs.Numbers.{guarded, guard_refused}
 use Rattle.book.proofs.Replies.{replied}
 use Rattle.book.proofs.Sound.{Sound}
-use borrow.Author.Rules.{rules}
 use Rattle.book.proofs.Book.close.Goals.{In-Accepted}
 use Rattle.book.proofs.Book.close.Goals as goal
 

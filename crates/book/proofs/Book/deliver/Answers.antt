@@ -58,8 +58,11 @@ returns-in_default-answer c =
 
 pub found_at-replaced-requires : goal.found_at-replaced-requires
 found_at-replaced-requires c =
-    omega (arith, stands_before (given (goal.at.found_at-replaced-requires c).After-file_entry-filed) c.in-Accepted-answer.is,
-    c.file_entry-filed.auto.journal)
+    omega (
+      arith,
+      stands_before (given (goal.at.found_at-replaced-requires c).After-file_entry-filed) c.in-Accepted-answer.is,
+      c.file_entry-filed.auto.journal,
+    )
 
 pub overflow_add-longer : goal.overflow_add-longer
 overflow_add-longer c = record { fits = omega (arith, counts (given (goal.at.overflow_add-longer c).After-file_entry-filed)) }

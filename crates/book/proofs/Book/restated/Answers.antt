@@ -1,6 +1,5 @@
 -- `book::Book::restated` meets its contract.
 use Rattle.book.proofs.Replies.{restated_as}
-use borrow.Author.Rules.{rules}
 use Rattle.book.proofs.Book.restated.Goals as goal
 
 pub returns : goal.returns

@@ -4,7 +4,6 @@ use Rattle.answers.specs.Numbers.{number_of}
 use Rattle.answers.proofs.Refusing.{refused-number}
 use Rattle.book.proofs.Numbers.{guard_refused}
 use Rattle.book.proofs.Replies.{replied}
-use borrow.Author.Rules.{rules}
 use Rattle.book.proofs.Book.take_back.Goals as goal
 
 pub returns-in_default : goal.returns-in_default

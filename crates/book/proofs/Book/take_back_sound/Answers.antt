@@ -7,7 +7,6 @@ use Rattle.book.specs.Library.{lent}
 use Rattle.book.proofs.Numbers.{guarded}
 use Rattle.book.proofs.TakingBack.{Answered, is_refused, is_some, lies, is_read, is_place, position_small, is_unposted}
 use Rattle.book.proofs.Replies.{replied}
-use borrow.Author.Rules.{rules}
 use Rattle.entry_record.proofs.Laws.{entry_decoded}
 use Rattle.book.proofs.Book.take_back_sound.Goals.{After-taking_back_answer-withdrawal}
 use Rattle.book.proofs.Book.take_back_sound.Goals as goal
@@ -45,7 +44,7 @@ standing_place-earlier_at-requires c =
     let read = known in
     let told = read in
     let room = lies (answered (goal.at.standing_place-earlier_at-requires c).After-taking_back_answer-withdrawal) told.in-Accepted.is in
- record { count_in_bounds = omega (arith, room); quarter_bound = (read_range _ _ (sym (entry_decoded _ _ read.entry_at.ensures) ∙ known.in-Read.is)).quarter }
+    record { count_in_bounds = omega (arith, room); quarter_bound = (read_range _ _ (sym (entry_decoded _ _ read.entry_at.ensures) ∙ known.in-Read.is)).quarter }
 
 pub found_at-earlier-requires : goal.found_at-earlier-requires
 found_at-earlier-requires c =
@@ -57,7 +56,7 @@ found_at-earlier-requires c =
 pub write_at-requires : goal.write_at-requires
 write_at-requires c =
     let told = c in
- record { at_in_bounds = lies (answered (goal.at.write_at-requires c).After-taking_back_answer-withdrawal) told.in-Accepted.is; bytes_len = refl }
+    record { at_in_bounds = lies (answered (goal.at.write_at-requires c).After-taking_back_answer-withdrawal) told.in-Accepted.is; bytes_len = refl }
 
 pub overflow_cast-index : goal.overflow_cast-index
 overflow_cast-index c =
@@ -78,7 +77,7 @@ restated-requires c =
     let found = c in
     let known = found in
     let r = read_range _ _ (sym (entry_decoded _ _ known.entry_at.ensures) ∙ known.in-Read.is) in
- record { point_bound = r.point; placed = placed _ _ _ found.found_at-earlier.ensures; placed_2 = placed_read _ r }
+    record { point_bound = r.point; placed = placed _ _ _ found.found_at-earlier.ensures; placed_2 = placed_read _ r }
 
 pub returns : goal.returns
 returns c =

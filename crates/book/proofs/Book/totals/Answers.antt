@@ -3,7 +3,6 @@ use mathlib.Core.Path.{sym, ap, ◌∙◌}
 use Rattle.answers.specs.Numbers.{number_of}
 use Rattle.answers.proofs.Refusing.{refused-number}
 use Rattle.book.proofs.Closing.{given_nothing, given-totals}
-use borrow.Author.Rules.{rules}
 use Rattle.book.proofs.Book.totals.Goals as goal
 
 pub returns-in_default : goal.returns-in_default

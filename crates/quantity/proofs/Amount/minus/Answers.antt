@@ -1,5 +1,4 @@
 -- `quantity::Amount::minus` meets its contract: what `difference` gives is the new count.
-use borrow.Author.Rules.{rules}
 use Rattle.quantity.proofs.Amount.minus.Goals as goal
 
 pub returns : goal.returns

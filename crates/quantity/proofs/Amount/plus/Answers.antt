@@ -1,5 +1,4 @@
 -- `quantity::Amount::plus` meets its contract: what `sum` gives is the new count.
-use borrow.Author.Rules.{rules}
 use Rattle.quantity.proofs.Amount.plus.Goals as goal
 
 pub returns : goal.returns

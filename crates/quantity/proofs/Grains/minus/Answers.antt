@@ -1,5 +1,4 @@
 -- `quantity::Grains::minus` meets its contract: what `difference` gives is the new count.
-use borrow.Author.Rules.{rules}
 use Rattle.quantity.proofs.Grains.minus.Goals as goal
 
 pub returns : goal.returns

@@ -1,5 +1,4 @@
 -- `quantity::Grains::times` meets its contract: what `product` gives is the amount.
-use borrow.Author.Rules.{rules}
 use Rattle.quantity.proofs.Grains.times.Goals as goal
 
 pub returns : goal.returns

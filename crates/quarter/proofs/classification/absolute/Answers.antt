@@ -1,6 +1,5 @@
 -- `quarter::classification::absolute` meets its contract: a law of `proofs/Supply.antt`.
 use native.Mathlib.Omega.{arith}
-use borrow.Author.Rules.{rules}
 use Rattle.quarter.proofs.Supply.{absolute_made}
 use Rattle.quarter.proofs.classification.absolute.Goals as goal
 

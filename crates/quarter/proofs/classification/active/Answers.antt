@@ -1,5 +1,4 @@
 -- `quarter::classification::active` meets its contract: each class is the law of the tests that lead to it.
-use borrow.Author.Rules.{rules}
 use Rattle.quarter.proofs.Supply.{active_paid, active_free_lem, active_billed}
 use Rattle.quarter.proofs.classification.active.Goals as goal
 

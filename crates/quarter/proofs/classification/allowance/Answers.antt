@@ -1,6 +1,5 @@
 -- `quarter::classification::allowance` meets its contract: the class picks the case.
 use mathlib.Core.Path.{sym, ap, ◌∙◌}
-use borrow.Author.Rules.{rules}
 use Rattle.quarter.specs.Steps.{allowance_of}
 use Rattle.quarter.specs.declared.Class.{Class}
 use Rattle.quarter.proofs.classification.allowance.Goals as goal

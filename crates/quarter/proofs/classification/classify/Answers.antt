@@ -1,6 +1,5 @@
 -- `quarter::classify` meets its contract: a take is a supply with the two voltages exchanged.
 use mathlib.Core.Path.{◌∙◌}
-use borrow.Author.Rules.{rules}
 use Rattle.quarter.proofs.Directions.{mirrored_classified}
 use Rattle.quarter.proofs.classification.classify.Goals as goal
 

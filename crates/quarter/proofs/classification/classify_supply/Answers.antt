@@ -1,7 +1,5 @@
 -- `quarter::classification::classify_supply` meets its contract: each return is the law of its role and lamp.
 use mathlib.Core.Path.{◌∙◌}
-use borrow.Author.Rules.{rules}
-use borrow.Author.Tests.{not-true, not-false}
 use Rattle.quarter.proofs.Supply.{unlit, lit_active, lit_semi_active}
 use Rattle.quarter.proofs.classification.classify_supply.Goals as goal
 

@@ -1,5 +1,4 @@
 -- `quarter::classification::file` meets its contract: each arm is the law of its class.
-use borrow.Author.Rules.{rules}
 use Rattle.quarter.proofs.Filing.{as_paid, as_free, as_billed, as_disconnected}
 use Rattle.quarter.proofs.classification.file.Goals as goal
 

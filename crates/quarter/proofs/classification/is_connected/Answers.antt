@@ -1,6 +1,5 @@
 -- `quarter::classification::is_connected` meets its contract: each arm is the definition's line for its role.
 use mathlib.Core.Path.{sym, ap}
-use borrow.Author.Rules.{rules}
 use Rattle.quarter.specs.declared.Role.{Role}
 use Rattle.quarter.specs.Reading.{connected}
 use Rattle.quarter.proofs.classification.is_connected.Goals as goal

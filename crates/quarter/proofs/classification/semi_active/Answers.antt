@@ -1,6 +1,4 @@
 -- `quarter::classification::semi_active` meets its contract: each class is the law of the tests that lead to it.
-use borrow.Author.Rules.{rules}
-use borrow.Author.Tests.{not-true, not-false}
 use Rattle.quarter.proofs.Supply.{within-band, semi_active-paid, semi_active-billed, semi_active-free}
 use Rattle.quarter.proofs.classification.semi_active.Goals as goal
 

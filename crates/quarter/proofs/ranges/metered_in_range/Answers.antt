@@ -1,5 +1,4 @@
 -- `quarter::ranges::metered_in_range` meets its contract: by definition, at the counts of the two voltages.
-use borrow.Author.Rules.{rules}
 use Rattle.quarter.specs.Ranges.{metered_in_range}
 use Rattle.quarter.proofs.ranges.metered_in_range.Goals as goal
 

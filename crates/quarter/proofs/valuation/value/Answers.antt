@@ -1,7 +1,6 @@
 -- `quarter::value` meets its contract: each amount is the product of a share and its rate.
 use Prim.Native.Nat.{ℕ, ◌+◌, ◌*◌}
 use mathlib.Core.Path.{◌≡◌, ap, ◌∙◌}
-use borrow.Author.Rules.{rules}
 use Rattle.quantity.specs.declared.Amount.{Amount}
 use Rattle.quantity.specs.Quantity.{capped}
 use Rattle.quarter.specs.declared.Shares.{Shares}

@@ -9,7 +9,8 @@ unfolding ended columns_text
 returns c =
     let absolute = c.spaced.ensures.length_bound in
     let paid = c.spaced-2.ensures.length_bound in
-    let free = c.spaced-3.ensures.length_bound in  record { behind = c.spaced.ensures.behind
+    let free = c.spaced-3.ensures.length_bound in record {
+      behind = c.spaced.ensures.behind
           then c.spaced-2.ensures.behind
           then c.spaced-3.ensures.behind
           then c.spaced-4.ensures.behind
@@ -17,4 +18,6 @@ returns c =
           then c.spaced-6.ensures.behind
           then c.spaced-7.ensures.behind
           then c.spaced-8.ensures.behind
-          then c.end.ensures; length_bound = omega (arith, absolute, paid, free) }
+          then c.end.ensures;
+      length_bound = omega (arith, absolute, paid, free);
+    }

@@ -6,9 +6,12 @@ use Rattle.statement_text.proofs.layout.month.Goals as goal
 
 pub returns : goal.returns
 unfolding ended month_text
-returns c = record { behind = c.number.ensures.behind
+returns c = record {
+  behind = c.number.ensures.behind
       then c.byte.ensures
       then c.two_digits.ensures.behind
       then c.spaced.ensures.behind
       then c.spaced-2.ensures.behind
-      then c.end.ensures; length_bound = omega arith }
+      then c.end.ensures;
+  length_bound = omega arith;
+}

@@ -1,10 +1,7 @@
 -- `statement_text::layout::points` meets its contract.
-use Prim.Native.Nat.{◌+◌, ◌-◌, ◌*◌, ◌≤◌}
 use mathlib.Core.Path.{◌≡◌}
 use native.Mathlib.Omega.{arith}
-use lib.ListN.{length, take}
-use Rattle.statement_text.specs.Steps.{Behind}
-use Rattle.statement_text.specs.Text.{points_text}
+use lib.ListN.{length}
 use Rattle.statement_text.proofs.Lines.{no_line, next_line, counted, all_lines}
 use Rattle.statement_text.proofs.layout.points.Goals as goal
 
@@ -15,7 +12,7 @@ pub returns-then-i-count : goal.returns-then-i-count
 returns-then-i-count c =
     let a = c.args in
     let l = c.loop-i in
- record { behind = counted a.page l.page a.lines l.i a.count c.if-i-count.true l.invariant.1.1.1; length_bound = omega arith }
+    record { behind = counted a.page l.page a.lines l.i a.count c.if-i-count.true l.invariant.1.1.1; length_bound = omega arith }
 
 pub loop-i-preserved : goal.loop-i-preserved
 loop-i-preserved c =
@@ -30,4 +27,4 @@ returns c =
     let a = c.args in
     let l = c.loop-i in
     let s : length a.lines ≡ 8 = c.well_formed.1.1.0.1.0.1 in
- record { behind = all_lines a.page l.page a.lines l.i a.count (omega arith) (omega arith) l.invariant.1.1.1; length_bound = omega arith }
+    record { behind = all_lines a.page l.page a.lines l.i a.count (omega arith) (omega arith) l.invariant.1.1.1; length_bound = omega arith }

@@ -1,11 +1,8 @@
 -- `statement_text::layout::points` meets its contract.
-use Prim.Native.Nat.{◌+◌, ◌-◌, ◌*◌, ◌≤◌}
-use mathlib.Core.Path.{◌≡◌}
-use native.Mathlib.Omega.{arith}
-use lib.ListN.{length, take}
+use Prim.Native.Nat.{◌+◌, ◌*◌, ◌≤◌}
+use lib.ListN.{take}
 use Rattle.statement_text.specs.Steps.{Behind}
 use Rattle.statement_text.specs.Text.{points_text}
-use Rattle.statement_text.proofs.Lines.{no_line, next_line, counted, all_lines}
 use Rattle.statement_text.proofs.layout.points.Given as goal
 
 abbrev pub invariant-loop-i : goal.invariant-loop-i

@@ -9,7 +9,7 @@ returns-then-number-ne0 c =
     let start = c in
     let blank = c.blank-blank.ensures in
     let refused = c.refused.ensures in
- let k = printed blank.value refused.behind (omega arith) (refusal start.args.statement (omega arith)) in record { value = k.0; length_in_bounds = k.1 }
+    let k = printed blank.value refused.behind (omega arith) (refusal start.args.statement (omega arith)) in record { value = k.0; length_in_bounds = k.1 }
 
 pub returns : goal.returns
 returns c =
@@ -18,4 +18,4 @@ returns c =
     let month = c.month-first.ensures in
     let points = c.points-above.ensures in
     let total = c.total.ensures in
- let k = printed blank.value (month.behind then points.behind then total.behind) (omega arith) (whole start.args.statement (omega arith)) in record { value = k.0; length_in_bounds = k.1 }
+    let k = printed blank.value (month.behind then points.behind then total.behind) (omega arith) (whole start.args.statement (omega arith)) in record { value = k.0; length_in_bounds = k.1 }

@@ -1,10 +1,6 @@
 -- `statement_text::page::digits` meets its contract. The digits counted and those of the rest are those of the number, and one:
 -- the last digit of the rest is counted before it is met.
-use Prim.Native.Nat.{◌+◌, ◌^◌, ◌<◌}
-use mathlib.Core.Path.{◌≡◌}
 use native.Mathlib.Omega.{arith}
-use lib.ListN.{length}
-use Rattle.statement_text.specs.Text.{decimal}
 use Rattle.statement_text.proofs.Decimals.{length-decimal, length_one, length_last}
 use Rattle.statement_text.proofs.page.digits.Goals as goal
 
@@ -17,4 +13,4 @@ loop-rest-preserved c = (omega arith, omega (arith, length_last c.loop-rest.rest
 pub returns : goal.returns
 returns c =
     let one = length_one c.loop-rest.rest (omega arith) in
- record { value = omega arith; upper_bound = omega (arith, length-decimal c.args.n) }
+    record { value = omega arith; upper_bound = omega (arith, length-decimal c.args.n) }

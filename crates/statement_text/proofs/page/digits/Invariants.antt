@@ -2,10 +2,8 @@
 -- the last digit of the rest is counted before it is met.
 use Prim.Native.Nat.{◌+◌, ◌^◌, ◌<◌}
 use mathlib.Core.Path.{◌≡◌}
-use native.Mathlib.Omega.{arith}
 use lib.ListN.{length}
 use Rattle.statement_text.specs.Text.{decimal}
-use Rattle.statement_text.proofs.Decimals.{length-decimal, length_one, length_last}
 use Rattle.statement_text.proofs.page.digits.Given as goal
 
 abbrev pub invariant-loop-rest : goal.invariant-loop-rest

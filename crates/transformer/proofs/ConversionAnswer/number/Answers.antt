@@ -1,6 +1,5 @@
 -- `transformer::ConversionAnswer::number` meets its contract: each arm gives the number of its answer.
 use mathlib.Core.Path.{sym, ap}
-use borrow.Author.Rules.{rules}
 use Rattle.transformer.specs.Numbers.{number_of}
 use Rattle.transformer.proofs.ConversionAnswer.number.Goals as goal
 

@@ -1,5 +1,4 @@
 -- `transformer::conversion::convert` meets its contract.
-use borrow.Author.Rules.{rules}
 use mir.Facts.{to_z-of_z}
 use mir.Syntax.{w32}
 use Rattle.transformer.proofs.Refusing.{refused_14, in_range_lem, refused_15, passed, converts}

@@ -1,5 +1,4 @@
 -- `transformer::conversion::for_an_entry` meets its contract.
-use mathlib.Core.Path.{refl}
 use native.Mathlib.Omega.{arith}
 use Rattle.transformer.proofs.conversion.for_an_entry.Goals as goal
 

@@ -1,5 +1,4 @@
 -- `transformer::conversion::high_side` meets its contract.
-use borrow.Author.Rules.{rules}
 use mir.Facts.{to_z-of_z}
 use Rattle.transformer.proofs.Signs.{both_ways, more_lost, less_lost}
 use Rattle.transformer.proofs.conversion.high_side.Goals as goal

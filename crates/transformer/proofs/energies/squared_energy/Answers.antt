@@ -1,5 +1,4 @@
 -- `transformer::energies::squared_energy` meets its contract.
-use borrow.Author.Rules.{rules}
 use Prim.Native.Nat.{ℕ, ◌+◌, ◌*◌}
 use mathlib.Core.Path.{ap, ap₂, ◌∙◌}
 use native.Mathlib.Nat.{mul-le-mul}

@@ -1,5 +1,4 @@
 -- `transformer::loss::loss` meets its contract.
-use borrow.Author.Rules.{rules}
 use native.Mathlib.Omega.{arith}
 use Rattle.transformer.proofs.Accepted.{accepted}
 use Rattle.transformer.proofs.Bounds.{product_fits, idle_most, over_fits, ranges, squares_most, loss-found}
@@ -8,13 +7,13 @@ use Rattle.transformer.proofs.loss.loss.Goals as goal
 pub returns : goal.returns
 returns c =
     let a = c in
- let k = loss-found a.args.low a.args.sheet a.requires _ _ _ c.squared_energy-squares.ensures c.root.ensures.value c.nearest.ensures in record { value = k.0; upper_bound = k.1 }
+    let k = loss-found a.args.low a.args.sheet a.requires _ _ _ c.squared_energy-squares.ensures c.root.ensures.value c.nearest.ensures in record { value = k.0; upper_bound = k.1 }
 
 pub root-requires : goal.root-requires
 root-requires c =
     let a = c in
     let k = accepted a.args.low a.args.sheet a.requires in
- record { sheet_value = k.ranges; sheet_value_2 = k.above }
+    record { sheet_value = k.ranges; sheet_value_2 = k.above }
 
 pub overflow_mul-load : goal.overflow_mul-load
 overflow_mul-load c =
@@ -47,4 +46,4 @@ pub nearest-requires : goal.nearest-requires
 nearest-requires c =
     let a = c in
     let s = ranges a.args.low a.args.sheet a.requires in
- record { under_nonzero = omega (arith, s.some); under_bound = omega (arith, s.power) }
+    record { under_nonzero = omega (arith, s.some); under_bound = omega (arith, s.power) }

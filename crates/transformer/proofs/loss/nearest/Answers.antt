@@ -1,5 +1,4 @@
 -- `transformer::loss::nearest` meets its contract.
-use borrow.Author.Rules.{rules}
 use native.Mathlib.Nat.{mod-lt}
 use native.Mathlib.Omega.{arith}
 use Rattle.transformer.proofs.Rounding.{rounds_up, rounds_down, next_most}

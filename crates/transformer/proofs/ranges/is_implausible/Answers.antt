@@ -1,5 +1,4 @@
 -- `transformer::ranges::is_implausible` meets its contract.
-use borrow.Author.Rules.{rules}
 use native.Mathlib.Omega.{arith}
 use Rattle.transformer.proofs.Reduced.{implausible}
 use Rattle.transformer.proofs.Accepted.{sheet, of_all}

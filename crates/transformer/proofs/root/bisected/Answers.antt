@@ -1,14 +1,13 @@
 -- `transformer::root::bisected` meets its contract.
-use Prim.Native.Nat.{◌-◌}
 use native.Mathlib.Omega.{arith}
-use Rattle.transformer.proofs.Bisecting.{Between, side_most, narrowest}
+use Rattle.transformer.proofs.Bisecting.{side_most, narrowest}
 use Rattle.transformer.proofs.Bounds.{product_fits}
 use Rattle.transformer.proofs.root.bisected.Goals as goal
 
 pub returns : goal.returns
 returns c =
     let l = c.loop-low in
- let k = narrowest _ _ l.low l.high l.invariant c.loop-low-test.false in record { sn_bound_2 = k.0; radicand_bound_2 = k.1.0; upper_bound = k.1.1 }
+    let k = narrowest _ _ l.low l.high l.invariant c.loop-low-test.false in record { sn_bound_2 = k.0; radicand_bound_2 = k.1.0; upper_bound = k.1.1 }
 
 pub loop-low-init : goal.loop-low-init
 loop-low-init c = (omega arith, (c.requires.radicand_bound, (omega arith, omega arith)))

@@ -1,8 +1,6 @@
 -- `transformer::root::bisected` meets its contract.
 use Prim.Native.Nat.{◌-◌}
-use native.Mathlib.Omega.{arith}
-use Rattle.transformer.proofs.Bisecting.{Between, side_most, narrowest}
-use Rattle.transformer.proofs.Bounds.{product_fits}
+use Rattle.transformer.proofs.Bisecting.{Between}
 use Rattle.transformer.proofs.root.bisected.Given as goal
 
 abbrev pub invariant-loop-low : goal.invariant-loop-low

@@ -1,5 +1,4 @@
 -- `transformer::root::root` meets its contract.
-use borrow.Author.Rules.{rules}
 use native.Mathlib.Omega.{arith}
 use Rattle.transformer.proofs.Roots.{root_is}
 use Rattle.transformer.proofs.Accepted.{sheet}
@@ -11,7 +10,7 @@ returns c =
     let a = c in
     let s = sheet a.args.sheet a.requires.sheet_value in
     let r = c.bisected.ensures in
- record { value = root_is a.args.sheet s.some _ r.sn_bound_2 r.radicand_bound_2; upper_bound = r.upper_bound }
+    record { value = root_is a.args.sheet s.some _ r.sn_bound_2 r.radicand_bound_2; upper_bound = r.upper_bound }
 
 pub overflow_mul-uk-2 : goal.overflow_mul-uk-2
 overflow_mul-uk-2 c =
@@ -39,4 +38,4 @@ pub bisected-requires : goal.bisected-requires
 bisected-requires c =
     let a = c in
     let s = sheet a.args.sheet a.requires.sheet_value in
- record { sn_bound = s.power; radicand_bound = radicand_lt a.args.sheet s }
+    record { sn_bound = s.power; radicand_bound = radicand_lt a.args.sheet s }

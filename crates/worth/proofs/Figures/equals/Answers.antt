@@ -1,6 +1,5 @@
 -- `worth::Figures::equals` meets its contract: by definition, at the counts of the sixteen figures.
 use mathlib.Core.Bool.{◌&&◌}
-use borrow.Author.Rules.{rules}
 use lib.Dec.{eqb}
 use Rattle.worth.specs.Figures.{same}
 use Rattle.worth.proofs.Figures.equals.Goals as goal

@@ -1,6 +1,5 @@
 -- `worth::Figures::minus` meets its contract: each column is a difference.
 use Prim.Native.Nat.{◌-◌}
-use borrow.Author.Rules.{rules}
 use Rattle.worth.specs.Figures.{figure}
 use Rattle.worth.proofs.Columns.{made}
 use Rattle.worth.proofs.Figures.minus.Goals as goal

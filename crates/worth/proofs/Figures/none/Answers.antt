@@ -1,7 +1,6 @@
 -- `worth::Figures::none` meets its contract: each column is 0.
 use mathlib.Core.Path.{◌≡◌, ap, ◌∙◌}
 use native.Mathlib.Omega.{arith}
-use borrow.Author.Rules.{rules}
 use Rattle.quantity.specs.declared.Grains.{Grains}
 use Rattle.worth.proofs.Columns.{made}
 use Rattle.worth.proofs.Figures.none.Goals as goal

@@ -1,5 +1,4 @@
 -- `worth::Figures::of` meets its contract: the answers of its calls, put together by a law of `proofs/Roles.antt`.
-use borrow.Author.Rules.{rules}
 use Rattle.worth.proofs.Roles.{put_made}
 use Rattle.worth.proofs.Figures.of.Goals as goal
 

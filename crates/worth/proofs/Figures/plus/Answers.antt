@@ -1,6 +1,5 @@
 -- `worth::Figures::plus` meets its contract: each column is a sum.
 use Prim.Native.Nat.{◌+◌}
-use borrow.Author.Rules.{rules}
 use Rattle.quantity.specs.Quantity.{capped}
 use Rattle.worth.specs.Figures.{figure}
 use Rattle.worth.proofs.Columns.{made}

@@ -1,5 +1,4 @@
 -- `worth::valuation::role_of` meets its contract: by the role bit, with the point's band.
-use borrow.Author.Rules.{rules}
 use Rattle.worth.proofs.Roles.{semi_active_lem}
 use Rattle.worth.proofs.valuation.role_of.Goals as goal
 

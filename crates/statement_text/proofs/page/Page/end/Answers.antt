@@ -1,5 +1,4 @@
 -- `statement_text::page::Page::end` meets its contract.
-use native.Mathlib.Omega.{arith}
 use Rattle.statement_text.proofs.page.Page.end.Goals as goal
 
 pub returns : goal.returns

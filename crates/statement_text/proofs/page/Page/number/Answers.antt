@@ -1,10 +1,6 @@
 -- `statement_text::page::Page::number` meets its contract: with the digits of the rest stored, the page would be as it is to be.
-use Prim.Native.Nat.{◌+◌, ◌^◌, ◌<◌}
-use mathlib.Core.Path.{◌≡◌, refl, ◌∙◌}
+use mathlib.Core.Path.{refl, ◌∙◌}
 use native.Mathlib.Omega.{arith}
-use lib.ListN.{length}
-use lib.Seq.{sets}
-use Rattle.statement_text.specs.Text.{decimal}
 use Rattle.statement_text.proofs.Decimals.{length-decimal, length_last, digit-first, digit_last}
 use Rattle.statement_text.proofs.page.Page.number.Goals as goal
 
@@ -29,4 +25,4 @@ returns c =
     let l = c.loop-rest in
     let count = c.digits.ensures in
     let stored = digit_last l.self.bytes _ l.rest (omega arith) ∙ l.invariant.1.1 in
- record { behind = record { stored = stored; longer = omega (arith, l.invariant.1.0, count.value) }; length_bound = omega (arith, l.invariant.1.0, count.upper_bound) }
+    record { behind = record { stored = stored; longer = omega (arith, l.invariant.1.0, count.value) }; length_bound = omega (arith, l.invariant.1.0, count.upper_bound) }

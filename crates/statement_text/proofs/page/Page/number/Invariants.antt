@@ -1,11 +1,9 @@
 -- `statement_text::page::Page::number` meets its contract: with the digits of the rest stored, the page would be as it is to be.
 use Prim.Native.Nat.{◌+◌, ◌^◌, ◌<◌}
-use mathlib.Core.Path.{◌≡◌, refl, ◌∙◌}
-use native.Mathlib.Omega.{arith}
+use mathlib.Core.Path.{◌≡◌}
 use lib.ListN.{length}
 use lib.Seq.{sets}
 use Rattle.statement_text.specs.Text.{decimal}
-use Rattle.statement_text.proofs.Decimals.{length-decimal, length_last, digit-first, digit_last}
 use Rattle.statement_text.proofs.page.Page.number.Given as goal
 
 abbrev pub invariant-loop-rest : goal.invariant-loop-rest

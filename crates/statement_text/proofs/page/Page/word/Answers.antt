@@ -1,9 +1,6 @@
 -- `statement_text::page::Page::word` meets its contract.
-use Prim.Native.Nat.{◌-◌, ◌≤◌}
 use native.Mathlib.Omega.{arith}
-use lib.ListN.{length, take}
 use lib.Seq.{length-take-le}
-use Rattle.statement_text.specs.Steps.{Behind}
 use Rattle.statement_text.proofs.Pages.{none, letter, whole_word}
 use Rattle.statement_text.proofs.page.Page.word.Goals as goal
 

@@ -1,10 +1,7 @@
 -- `statement_text::page::Page::word` meets its contract.
-use Prim.Native.Nat.{◌-◌, ◌≤◌}
-use native.Mathlib.Omega.{arith}
+use Prim.Native.Nat.{◌≤◌}
 use lib.ListN.{length, take}
-use lib.Seq.{length-take-le}
 use Rattle.statement_text.specs.Steps.{Behind}
-use Rattle.statement_text.proofs.Pages.{none, letter, whole_word}
 use Rattle.statement_text.proofs.page.Page.word.Given as goal
 
 abbrev pub invariant-loop-i : goal.invariant-loop-i
