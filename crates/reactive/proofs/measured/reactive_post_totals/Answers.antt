@@ -13,5 +13,5 @@ returns c =
     let posted = c in
     let r = posted.post-posted in
     let asked = c.ask in
-    ap (λ n. (n, (lent r.new.1.0 r.new.1.1.0, asked.new.1.1.1.1.0))) c.number.ensures
+    ap (λ n. (n, (lent r.new.journal r.new.index, asked.new.output))) c.number.ensures
     ∙ measures _ _ _ _ posted.if-answer-lt528.false _ _ r.ensures asked.ensures
