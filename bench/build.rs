@@ -1,4 +1,4 @@
-//! Tells the linker where the archive of the crate `reactive` lies.
+//! Tells the linker where the archive of the crate `reactive_c` lies.
 use std::env;
 use std::path::PathBuf;
 

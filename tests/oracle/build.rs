@@ -1,4 +1,4 @@
-//! Tells the linker where the archive of the crate `reactive` lies, for the tests that call it.
+//! Tells the linker where the archive of the crate `reactive_c` lies, for the tests that call it.
 use std::env;
 use std::path::PathBuf;
 
@@ -9,7 +9,7 @@ fn main() {
     let folder = target.join("staticlib");
     let archive = folder.join("libreactive.a");
     if !archive.exists() {
-        println!("cargo:warning={} is missing: `rt staticlib reactive` writes it", archive.display());
+        println!("cargo:warning={} is missing: `tools/build` writes it", archive.display());
     }
     println!("cargo:rustc-link-search=native={}", folder.display());
     println!("cargo:rerun-if-changed={}", archive.display());

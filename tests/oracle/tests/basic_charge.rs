@@ -1,4 +1,4 @@
-//! The basic charge (02, Ticket 3) against the oracle: the archive of the crate `reactive`, called as C calls it.
+//! The basic charge (02, Ticket 3) against the oracle: the archive of the crate `reactive_c`, called as C calls it.
 mod basic_charge_lists;
 
 use basic_charge_lists::{arguments, ends, lengths, of_share, Arguments, SPOILS, STORED};

@@ -1,4 +1,4 @@
-//! The classification against the oracle: the archive of the crate `reactive`, called as C calls it.
+//! The classification against the oracle: the archive of the crate `reactive_c`, called as C calls it.
 use oracle::quarter::{c_call, Quarter};
 use oracle::random::Random;
 use oracle::right_files::voltages;

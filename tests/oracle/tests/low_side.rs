@@ -1,4 +1,4 @@
-//! The low side (02, Ticket 2) against the oracle: the archive of the crate `reactive`, called as C calls it.
+//! The low side (02, Ticket 2) against the oracle: the archive of the crate `reactive_c`, called as C calls it.
 mod low_side_call;
 
 use low_side_call::{call, Words};

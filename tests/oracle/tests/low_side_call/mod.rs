@@ -1,4 +1,4 @@
-//! The call of the low side in the archive of the crate `reactive`, as C makes it.
+//! The call of the low side in the archive of the crate `reactive_c`, as C makes it.
 
 /// The two numbers lent lie among others, so that a number written beside them shows.
 pub type Words = [u32; 5];
