@@ -1,6 +1,6 @@
 /* The classification of one quarter-hour of reactive energy, the conversion of one that is metered on
  * the low-voltage side, and the charge for weighted supply points, as a C program calls them.
- * Link the archive that `rt staticlib reactive` writes, target/staticlib/libreactive.a. */
+ * Link the archive of the crate `reactive_c`, which `tools/build` puts at target/staticlib/libreactive.a. */
 #ifndef REACTIVE_H
 #define REACTIVE_H
 
