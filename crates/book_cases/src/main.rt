@@ -8,9 +8,9 @@
 // its eight figures. A command that is not understood prints `?`.
 #![tactic(auto)]
 
-
 // Standard input and standard output, by their numbers.
 const STDIN_FILENO: i32 = 0;
+
 const STDOUT_FILENO: i32 = 1;
 
 fn main() {

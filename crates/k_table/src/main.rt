@@ -1,10 +1,10 @@
-// Prints the table of the factor K from the rule of 02, Ticket 3: the very text of the source file that has it,
-// `crates/basic_tariff/src/k_factors.rt`. Nothing of that table is read here. The test command compares the two.
+// Prints the table of the factor K from the rule of 02, Ticket 3, a number a line: the text of the source file that has
+// it, `crates/basic_tariff/src/k_factors.rt`, but for where its lines end. Nothing of that table is read here. The test
+// command compares the two.
 #![tactic(auto)]
 
 ghost use Rattle.std.specs.Prelude.{◌≡◌};
 ghost use Rattle.basic_tariff.specs.BasicTariff.{K};
-
 
 // Standard output, by its number.
 const STDOUT_FILENO: i32 = 1;

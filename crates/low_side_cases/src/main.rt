@@ -10,6 +10,7 @@ use transformer::{DataSheet, LowSide, convert};
 
 // Standard input and standard output, by their numbers.
 const STDIN_FILENO: i32 = 0;
+
 const STDOUT_FILENO: i32 = 1;
 
 fn main() {

@@ -113,7 +113,7 @@ fn active_bounds() {
 
 // The count, the penalty, the counted place and the spare places of a semi-active point.
 fn semi_active_bounds() {
-    text(b"semi_active_lem\n");
+    text(b"semi-active\n");
     point_case(SEMI_ACTIVE, 2, 3, 0);
     point_case(SEMI_ACTIVE, 39, 17, 1);
     point_case(SEMI_ACTIVE, 56, 12, 0);

@@ -3,7 +3,6 @@
 // are due, in the file `stdout`, are those of the reader of the same text in tests/oracle.
 #![tactic(auto)]
 
-
 // Standard input, by its number.
 const STDIN_FILENO: i32 = 0;
 

@@ -85,7 +85,7 @@ fn show_points() {
     show_with(b"active, one transformer", 7, 0x08, 0x04);
     show_with(b"payment tariff 131,071", 7, 0x07, 0xff);
     show_with(b"spare transformer", 26, 0x00, 0x01);
-    show_with(b"semi_active_lem, no transformer", 28, 0xc0, 0x04);
+    show_with(b"semi-active, no transformer", 28, 0xc0, 0x04);
     show_with(b"uk 0", 35, 0x00, 0x00);
 }
 

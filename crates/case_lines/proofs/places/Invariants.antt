@@ -1,6 +1,4 @@
 -- `case_lines::places` is safe and ends.
-use Prim.Native.Nat.{◌-◌}
-use borrow.Author.Rules.{rules}
 use Rattle.case_lines.proofs.places.Given as goal
 
 abbrev pub invariant-loop-i : goal.invariant-loop-i

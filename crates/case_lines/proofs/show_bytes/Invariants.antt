@@ -1,7 +1,4 @@
 -- `case_lines::show_bytes` is safe and ends.
-use Prim.Native.Nat.{◌-◌}
-use lib.ListN.{length}
-use borrow.Author.Rules.{rules}
 use Rattle.case_lines.proofs.show_bytes.Given as goal
 
 abbrev pub invariant-loop-i : goal.invariant-loop-i

@@ -1,6 +1,5 @@
 -- `k_table::k_of` meets its contract: its three cases are those of K.
 use mathlib.Core.Path.{sym}
-use borrow.Author.Rules.{rules}
 use Rattle.basic_tariff.proofs.Cases.{none, full, between}
 use Rattle.k_table.proofs.k_of.Goals as goal
 

@@ -1,6 +1,4 @@
 -- `k_table::main` is safe and ends.
-use Prim.Native.Nat.{◌-◌}
-use borrow.Author.Rules.{rules}
 use Rattle.k_table.proofs.main.Given as goal
 
 abbrev pub invariant-loop-share : goal.invariant-loop-share

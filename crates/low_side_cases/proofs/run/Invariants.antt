@@ -1,5 +1,5 @@
 -- `low_side_cases::run` is safe and ends.
-use Rattle.std.proofs.Common.{◌-◌, rules}
+use Rattle.std.proofs.Common.{◌-◌}
 use Rattle.low_side_cases.proofs.run.Given as goal
 
 abbrev pub invariant-loop : goal.invariant-loop

@@ -1,7 +1,4 @@
 -- `month_file_cases::hex` ends: the measure is what is left of the bytes.
-use Prim.Native.Nat.{◌-◌}
-use borrow.Author.Rules.{rules}
-use lib.ListN.{length}
 use Rattle.month_file_cases.proofs.hex.Given as goal
 
 abbrev pub invariant-loop-i : goal.invariant-loop-i

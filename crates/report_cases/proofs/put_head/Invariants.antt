@@ -1,9 +1,7 @@
 -- `report_cases::put_head` is safe.
-use Prim.Native.Nat.{◌-◌, ◌≤◌}
-use mathlib.Core.Path.{◌≡◌, refl}
-use native.Mathlib.Omega.{arith}
+use Prim.Native.Nat.{◌≤◌}
+use mathlib.Core.Path.{◌≡◌}
 use lib.ListN.{length}
-use borrow.Author.Rules.{rules}
 use Rattle.report_cases.proofs.put_head.Given as goal
 
 abbrev pub invariant-loop-i : goal.invariant-loop-i

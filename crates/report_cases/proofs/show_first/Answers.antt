@@ -2,7 +2,6 @@
 use mathlib.Core.Path.{sym}
 use native.Mathlib.Omega.{arith}
 use lib.Seq.{length-take-le}
-use borrow.Author.Rules.{rules}
 use Rattle.report_cases.proofs.show_first.Goals as goal
 
 pub slice_bounds-show-end : goal.slice_bounds-show-end

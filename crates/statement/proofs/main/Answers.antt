@@ -1,7 +1,6 @@
 -- `statement::main` is safe: the text lies within its page.
 use mathlib.Core.Path.{sym}
 use lib.Seq.{length-take-le}
-use borrow.Author.Rules.{rules}
 use Rattle.statement.proofs.main.Goals as goal
 
 pub slice_bounds-bytes-end : goal.slice_bounds-bytes-end

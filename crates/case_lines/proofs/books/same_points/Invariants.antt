@@ -1,6 +1,4 @@
 -- `case_lines::books::same_points` is safe and ends.
-use Prim.Native.Nat.{◌-◌}
-use borrow.Author.Rules.{rules}
 use Rattle.case_lines.proofs.books.same_points.Given as goal
 
 abbrev pub invariant-loop-i : goal.invariant-loop-i

@@ -1,5 +1,5 @@
 -- `cases::buffers::fill` is safe and ends.
-use Rattle.std.proofs.Common.{◌≡◌, ◌-◌, length, rules}
+use Rattle.std.proofs.Common.{◌≡◌, length}
 use Rattle.cases.proofs.buffers.fill.Given as goal
 
 abbrev pub invariant-loop-i : goal.invariant-loop-i

@@ -1,5 +1,4 @@
 -- `cases::calls::copied` is safe and ends.
-use Rattle.std.proofs.Common.{◌-◌, rules}
 use Rattle.cases.proofs.calls.copied.Given as goal
 
 abbrev pub invariant-loop-i : goal.invariant-loop-i

@@ -1,5 +1,4 @@
 -- `cases::commands::command_at` is safe and ends.
-use Rattle.std.proofs.Common.{◌-◌, rules}
 use Rattle.cases.proofs.commands.command_at.Given as goal
 
 abbrev pub invariant-loop-i : goal.invariant-loop-i

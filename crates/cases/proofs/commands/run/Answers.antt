@@ -1,5 +1,5 @@
 -- `cases::commands::run` is safe and ends.
-use Rattle.std.proofs.Common.{◌-◌, arith, rules}
+use Rattle.std.proofs.Common.{arith}
 use Rattle.cases.proofs.commands.run.Goals as goal
 
 pub overflow_step-turn : goal.overflow_step-turn

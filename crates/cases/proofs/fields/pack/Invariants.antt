@@ -1,5 +1,5 @@
 -- `cases::fields::pack` is safe and ends.
-use Rattle.std.proofs.Common.{◌≡◌, ◌-◌, length, rules}
+use Rattle.std.proofs.Common.{◌≡◌, length}
 use Rattle.cases.proofs.fields.pack.Given as goal
 
 abbrev pub invariant-loop-i : goal.invariant-loop-i

@@ -1,5 +1,5 @@
 -- `cases::places::paint` is safe and ends.
-use Rattle.std.proofs.Common.{◌≡◌, ◌-◌, length, rules}
+use Rattle.std.proofs.Common.{◌≡◌, length}
 use Rattle.cases.proofs.places.paint.Given as goal
 
 abbrev pub invariant-loop-i : goal.invariant-loop-i

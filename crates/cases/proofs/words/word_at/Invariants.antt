@@ -1,5 +1,5 @@
 -- `cases::words::word_at` is safe and ends.
-use Rattle.std.proofs.Common.{◌-◌, length, rules}
+use Rattle.std.proofs.Common.{◌-◌, length}
 use Rattle.cases.proofs.words.word_at.Given as goal
 
 abbrev pub invariant-loop-at : goal.invariant-loop-at

@@ -1,5 +1,4 @@
 -- `low_side_cases::numbers::signed` is safe and ends.
-use Rattle.std.proofs.Common.{rules}
 use Rattle.low_side_cases.proofs.Opposites.{opposite_fits}
 use Rattle.low_side_cases.proofs.numbers.signed.Goals as goal
 

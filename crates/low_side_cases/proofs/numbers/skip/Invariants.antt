@@ -1,5 +1,4 @@
 -- `low_side_cases::numbers::skip` is safe and ends.
-use Rattle.std.proofs.Common.{◌-◌, length, rules}
 use Rattle.low_side_cases.proofs.numbers.skip.Given as goal
 
 abbrev pub invariant-loop-at : goal.invariant-loop-at

@@ -1,6 +1,5 @@
 -- `quarter_cases::calls::show_bytes` is safe and ends: the index stays within the slice.
 use Prim.Native.Nat.{◌-◌, ◌≤◌}
-use borrow.Author.Rules.{rules}
 use lib.ListN.{length}
 use Rattle.quarter_cases.proofs.calls.show_bytes.Given as goal
 

@@ -1,6 +1,5 @@
 -- `quarter_cases::calls::show_in` is safe and ends: the part that is lent has the length asked for.
 use mathlib.Core.Path.{sym}
-use borrow.Author.Rules.{rules}
 use lib.ListN.{get_or}
 use lib.Seq.{length-take-le}
 use Rattle.quarter_cases.proofs.calls.show_in.Goals as goal

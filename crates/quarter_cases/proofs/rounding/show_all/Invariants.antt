@@ -1,6 +1,5 @@
 -- `quarter_cases::rounding::show_all` is safe and ends: the index stays within the table.
-use Prim.Native.Nat.{◌-◌, ◌≤◌}
-use borrow.Author.Rules.{rules}
+use Prim.Native.Nat.{◌≤◌}
 use Rattle.quarter_cases.proofs.rounding.show_all.Given as goal
 
 abbrev pub invariant-loop-i : goal.invariant-loop-i

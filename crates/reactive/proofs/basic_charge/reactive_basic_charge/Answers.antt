@@ -1,5 +1,4 @@
 -- `reactive::basic_charge::reactive_basic_charge` meets its contract.
-use borrow.Author.Rules.{rules}
 use Rattle.basic_tariff.specs.BasicTariff.{charged}
 use Rattle.reactive.specs.BasicCharge.{called}
 use Rattle.reactive.proofs.Lent.{put, kept}

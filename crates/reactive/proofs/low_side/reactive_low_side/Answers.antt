@@ -1,5 +1,4 @@
 -- `reactive::low_side::reactive_low_side` meets its contract.
-use borrow.Author.Rules.{rules}
 use mir.Facts.{to_z-of_z}
 use Rattle.transformer.specs.LowSide.{converted}
 use Rattle.reactive.specs.LowSide.{called}

@@ -1,9 +1,6 @@
 -- `reactive::measured::ask` meets its contract.
-use Prim.Native.Nat.{◌-◌, ◌≤◌}
-use mathlib.Core.Path.{◌≡◌, refl}
+use mathlib.Core.Path.{refl}
 use native.Mathlib.Omega.{arith}
-use borrow.Author.Rules.{rules}
-use Rattle.book.specs.Library.{lent}
 use Rattle.reactive.specs.Measured.{asked}
 use Rattle.reactive.proofs.Asking.{length-asked, asked-next, asked_all}
 use Rattle.reactive.proofs.measured.ask.Goals as goal

@@ -1,11 +1,8 @@
 -- `reactive::measured::ask` meets its contract.
 use Prim.Native.Nat.{◌-◌, ◌≤◌}
-use mathlib.Core.Path.{◌≡◌, refl}
-use native.Mathlib.Omega.{arith}
-use borrow.Author.Rules.{rules}
+use mathlib.Core.Path.{◌≡◌}
 use Rattle.book.specs.Library.{lent}
 use Rattle.reactive.specs.Measured.{asked}
-use Rattle.reactive.proofs.Asking.{length-asked, asked-next, asked_all}
 use Rattle.reactive.proofs.measured.ask.Given as goal
 
 abbrev pub invariant-loop : goal.invariant-loop

@@ -1,6 +1,5 @@
 -- `reactive::measured::reactive_post_totals` meets its contract.
 use mathlib.Core.Path.{ap, ◌∙◌}
-use borrow.Author.Rules.{rules}
 use Rattle.book.specs.Library.{lent}
 use Rattle.reactive.proofs.Asking.{too_short, measures}
 use Rattle.reactive.proofs.measured.reactive_post_totals.Goals as goal

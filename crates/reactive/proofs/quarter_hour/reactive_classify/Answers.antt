@@ -1,6 +1,5 @@
 -- `reactive::reactive_classify` meets its contract: the number of its refusal says which answer is due.
 use mathlib.Core.Bool.{not, ◌&&◌}
-use borrow.Author.Rules.{rules}
 use lib.Dec.{leb}
 use Rattle.reactive.proofs.QuarterHour.{room, refused, accepted}
 use Rattle.reactive.proofs.quarter_hour.reactive_classify.Goals as goal

@@ -1,6 +1,5 @@
 -- `reactive::quarter_hour::role_of` meets its contract: the test on the number picks the case.
 use mathlib.Core.Path.{ap}
-use borrow.Author.Rules.{rules}
 use borrow.Author.Tests.{eq-eqb, ne_eqb}
 use Rattle.reactive.specs.QuarterHour.{role_of}
 use Rattle.quarter.specs.declared.Role.TheVariants.{SemiActive}

@@ -1,5 +1,4 @@
 -- `reactive::quarter_hour::store` meets its contract: five numbers, one after the other.
-use borrow.Author.Rules.{rules}
 use Rattle.reactive.proofs.Shares.{stored}
 use Rattle.reactive.proofs.quarter_hour.store.Goals as goal
 

@@ -1,8 +1,6 @@
 -- `replay::page::print_answers` is safe and ends.
-use Prim.Native.Nat.{◌-◌, ◌≤◌, ◌<◌}
+use Prim.Native.Nat.{◌<◌}
 use native.Mathlib.Omega.{arith}
-use borrow.Author.Rules.{rules}
-use lib.ListN.{length}
 use Rattle.call_script.specs.Script.{size_at}
 use Rattle.call_script.proofs.Scripts.{whole-inside, whole_end}
 use Rattle.replay.proofs.page.print_answers.Goals as goal

@@ -1,7 +1,4 @@
 -- `replay::page::print_numbers` is safe and ends.
-use Prim.Native.Nat.{◌-◌, ◌/◌}
-use borrow.Author.Rules.{rules}
-use lib.ListN.{length}
 use Rattle.replay.proofs.page.print_numbers.Given as goal
 
 abbrev pub invariant-loop-i : goal.invariant-loop-i
