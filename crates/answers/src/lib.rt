@@ -1,13 +1,12 @@
-// What calls answer, and the number of each answer in documents 01 and 02.
+// What calls answer: what each hands back, or a refusal, and the number of each refusal in documents 01 and 02.
 #![tactic(auto)]
 
 ghost use Rattle.std.specs.Prelude.{◌≡◌};
-ghost use Rattle.answers.specs.Numbers.{number_of};
+ghost use Rattle.answers.specs.Numbers.{number_of, answered};
 
-// The answer of a call: accepted, or one of 01's refusals, or 02's.
-#[derive(Clone, Copy)]
-pub enum Answer {
-    Accepted,
+// The refusals of 01, and those of 02 that calls on a book have.
+#[derive(Clone, Copy, Debug, PartialEq, Eq)]
+pub enum Refusal {
     TooShort,
     WrongHeader,
     WrongLength,
@@ -23,26 +22,35 @@ pub enum Answer {
     ShortIndex,
 }
 
-impl Answer {
-    // The documents' number; 0 where the call was accepted.
-    pub fn number(self) -> u32
-        ensures { result ≡ number_of self }
-    {
-        match self {
-            Answer::Accepted => 0,
-            Answer::TooShort => 1,
-            Answer::WrongHeader => 2,
-            Answer::WrongLength => 3,
-            Answer::WrongPoint => 4,
-            Answer::Unreadable => 5,
-            Answer::Outside => 6,
-            Answer::Unsound => 7,
-            Answer::AlreadyClosed => 8,
-            Answer::NotAbove => 9,
-            Answer::Full => 10,
-            Answer::Empty => 11,
-            Answer::ShortOutput => 13,
-            Answer::ShortIndex => 17,
+// The documents' number.
+impl From<Refusal> for u32 {
+    ghost from_gives = { λ refusal number. number ≡ number_of refusal };
+
+    fn from(refusal: Refusal) -> u32 {
+        match refusal {
+            Refusal::TooShort => 1,
+            Refusal::WrongHeader => 2,
+            Refusal::WrongLength => 3,
+            Refusal::WrongPoint => 4,
+            Refusal::Unreadable => 5,
+            Refusal::Outside => 6,
+            Refusal::Unsound => 7,
+            Refusal::AlreadyClosed => 8,
+            Refusal::NotAbove => 9,
+            Refusal::Full => 10,
+            Refusal::Empty => 11,
+            Refusal::ShortOutput => 13,
+            Refusal::ShortIndex => 17,
         }
+    }
+}
+
+// The number that a call answers: 0 where it was accepted.
+pub fn answered<T>(answer: &Result<T, Refusal>) -> u32
+    ensures { result ≡ answered answer.now }
+{
+    match answer {
+        Ok(_) => 0,
+        Err(refusal) => u32::from(*refusal),
     }
 }
