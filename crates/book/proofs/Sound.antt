@@ -6,7 +6,7 @@ use mathlib.Core.Bool.{Bool, true, false, cond, not, ◌||◌}
 use mathlib.Core.List.{List}
 use borrow.Author.Tests.{not-false}
 use lib.ListN.{length}
-use Rattle.std.specs.Prelude.{Option, None, Some, MatchOption, unwrap_or}
+use Rattle.std.specs.Prelude.{Option, None, Some, MatchOption, unwrap_or, ⊤}
 use Rattle.worth.specs.declared.Figures.{Figures}
 use Rattle.index.specs.Index.{short_index}
 use Rattle.refusals.proofs.Tests.{neither, not_not}

@@ -11,7 +11,7 @@ use lib.Seq.{paste}
 use Rattle.refusals.specs.Refusals.{first}
 use Rattle.refusals.proofs.First.{none_holds}
 use Rattle.entry_record.specs.declared.Entry.{Entry}
-use Rattle.std.specs.Prelude.{Option, None, Some, Result, Ok, Err}
+use Rattle.std.specs.Prelude.{Option, None, Some, Result, Ok, Err, ⊤}
 use Rattle.entry_record.specs.Entry.{decoded_entry}
 use Rattle.entry_record.proofs.Laws.{entry_reads}
 use Rattle.answers.specs.declared.Refusal.{Refusal}

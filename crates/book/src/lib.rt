@@ -6,7 +6,7 @@
 
 mod calls;
 mod judgement;
-mod totals;
+mod no_totals;
 
 use answers::Refusal;
 pub use judgement::judge;

@@ -11,7 +11,7 @@ use Rattle.bits.proofs.Parts.{part}
 use Rattle.lists.specs.Lists.{places_below}
 use Rattle.lists.proofs.Laws.{length_places, none-next, any_further}
 use Rattle.point_record.specs.declared.Point.{Point}
-use Rattle.std.specs.Prelude.{Option, None, Some, MatchOption, unwrap_or}
+use Rattle.std.specs.Prelude.{Option, None, Some, MatchOption, unwrap_or, ⊤}
 use Rattle.point_record.specs.Point.{decoded_point, point_in, wrong_point, no_point}
 use Rattle.point_record.proofs.Laws.{point_reads}
 use Rattle.opening.specs.Opening.{point_bytes, first_points, any_wrong, read_points}
