@@ -1,13 +1,14 @@
 // Energy and money, two of the three kinds of quantity of the settlement; the third stands in the
 // crate `voltages`. Each is a tuple struct whose field is private to its crate, so that code
-// elsewhere cannot add one kind to another.
+// elsewhere cannot add one kind to another. So what the three have alike, as `plus`, stands in each
+// for its own kind alone, and is neither one generic type nor an operator, which would not say that
+// it stops at the ends.
 //
 // No function here has a `requires`. A sum or a product past the largest count is that largest
 // count, and a difference below nothing is nothing; the exact contracts of callers show that they
 // meet neither.
 #![tactic(auto)]
 
-mod capped;
 mod energy;
 mod money;
 
