@@ -81,36 +81,37 @@ fn show_run(value: u16, count: usize) {
     io::print_decimal(STDOUT_FILENO, count as u64);
 }
 
-// The names of calls in the text, a byte for each letter.
-pub const OPEN: u64 = 0x6f70656e;
-
-pub const BACK: u64 = 0x6261636b;
-
-pub const CLOSE: u64 = 0x636c6f7365;
+// The calls that are printed by name.
+#[derive(Clone, Copy, Debug, PartialEq, Eq)]
+pub enum Call {
+    Open,
+    Deliver,
+    TakeBack,
+    Close,
+}
 
 // What is printed before a call.
-pub fn announce(name: u64) {
-    match name {
-        OPEN => text(b" open"),
-        BACK => text(b" take-back"),
-        CLOSE => text(b" close"),
-        _ => text(b" deliver"),
+pub fn announce(call: Call) {
+    match call {
+        Call::Open => text(b" open"),
+        Call::Deliver => text(b" deliver"),
+        Call::TakeBack => text(b" take-back"),
+        Call::Close => text(b" close"),
     }
 }
 
 // The number answered. A refused opening has to hand back the void book, any other refused call the book
 // as it was; and journal and index have to be as they were.
-pub fn show_answer(opening: bool, before: Book, reply: Reply, same_buffers: bool) {
+pub fn show_answer(call: Call, before: Book, reply: Reply, same_buffers: bool) {
     let answer = reply.answer;
     let refusal = answer.number();
     number(refusal as u64);
     if refusal == 0 {
         return;
     }
-    if opening {
-        show_void(reply.book, same_buffers);
-    } else {
-        kept(b" kept", same_book(before, reply.book) & same_buffers);
+    match call {
+        Call::Open => show_void(reply.book, same_buffers),
+        _ => kept(b" kept", same_book(before, reply.book) & same_buffers),
     }
 }
 
