@@ -8,9 +8,5 @@ use worth::Figures;
 pub fn are_equal(a: [Figures; 8], b: [Figures; 8]) -> bool
     ensures { result ≡ all_same a b }
 {
-    let mut equal = true;
-    for i in 0..8 {
-        equal = equal & a[i].equals(b[i]);
-    }
-    equal
+    a == b
 }

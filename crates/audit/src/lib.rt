@@ -7,12 +7,3 @@ mod room;
 
 pub use comparing::are_equal;
 pub use room::capacity;
-use worth::Figures;
-
-// Whether master data, journal and index are such as calls can have left, and then the totals summed from the
-// journal; else every total is 0.
-#[derive(Clone, Copy)]
-pub struct Afresh {
-    pub lawful: bool,
-    pub totals: [Figures; 8],
-}

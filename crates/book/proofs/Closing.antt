@@ -1,17 +1,16 @@
 -- Close and totals, after the book was judged. Assumes nothing.
 use mathlib.Core.Path.{◌≡◌}
 use mathlib.Core.Bool.{true, false}
-use Prim.Native.Nat.{ℕ, ◌<◌}
 use native.Mathlib.Omega.{arith}
-use lib.ListN.{replicate}
+use Rattle.std.specs.Prelude.{Ok, Err}
+use Rattle.answers.specs.declared.Refusal.{Refusal}
+use Rattle.answers.specs.Numbers.{number_of}
+use Rattle.answers.proofs.Refusing.{refused-number}
 use Rattle.refusals.specs.Refusals.{first}
 use Rattle.refusals.proofs.First.{skip, stop, refuse}
-use Rattle.worth.specs.declared.Figures.{Figures}
-use Rattle.worth.specs.Figures.{nothing}
-use Rattle.machine.specs.Machine as machine
 use Rattle.machine.specs.Machine.{close}
 use Rattle.book.specs.declared.Book.{Book}
-use Rattle.book.specs.Library.{Lent, guards, with_closed, outcome, called, totals_given}
+use Rattle.book.specs.Library.{Lent, guards, with_closed, outcome, called, totals_answer, totals_given}
 use Rattle.book.proofs.Numbers.{sound_refused, sound_accepted}
 use Rattle.book.proofs.Sound.{Sound}
 
@@ -25,13 +24,11 @@ module _ (b : Book) (l : Lent) where
   closed_now s h = sound_accepted s close (skip 8 0 h)
 
   -- totals gives nothing beside a number
-  pub given_nothing : (n : ℕ) (f : Figures) → 0 < n → n ≡ first (guards b l) → f ≡ nothing
-      → ◌≡◌ {A = machine.Answer} (record { number = n; figures = replicate 8 f; entries = 0 }) (totals_given b l)
+  pub given_nothing : (r : Refusal) → number_of r ≡ first (guards b l) → totals_answer (Err r) ≡ totals_given b l
   unfolding totals_given
-  given_nothing n f p h e = rw (← h, refuse p, e)
+  given_nothing r h = rw (← h, refuse (refused-number r))
 
   -- and else what the book stores
-  pub given-totals : 0 ≡ first (guards b l)
-      → ◌≡◌ {A = machine.Answer} (record { number = 0; figures = b.totals; entries = b.length }) (totals_given b l)
+  pub given-totals : 0 ≡ first (guards b l) → totals_answer (Ok (record { points = b.totals; length = b.length })) ≡ totals_given b l
   unfolding totals_given
   given-totals h = rw (← h)

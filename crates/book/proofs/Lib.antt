@@ -1,6 +1,5 @@
 mod Closing
 pub mod Deliveries
 pub mod Numbers
-mod Replies
 pub mod Sound
 mod TakingBack

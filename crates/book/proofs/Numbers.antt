@@ -1,18 +1,20 @@
 -- The number of a call from its conditions. Assumes nothing.
 use Prim.Native.Nat.{ℕ, ◌<◌}
 use mathlib.Core.Path.{◌≡◌, refl, sym, ◌∙◌}
-use mathlib.Core.Bool.{Bool, true, false, cond, not, ◌&&◌}
+use mathlib.Core.Bool.{Bool, true, false, cond, not}
+use mathlib.Core.List.{List}
 use borrow.Author.Tests.{eqb-true, not-true, not-false}
+use Rattle.std.specs.Prelude.{None, Some}
+use Rattle.worth.specs.declared.Figures.{Figures}
 use lib.Dec.{eqb}
 use Rattle.refusals.specs.Refusals.{first}
 use Rattle.refusals.proofs.First.{skip, stop, refuse, NoneHolds, none_holds, all_passed, past, decided}
 use Rattle.machine.specs.Machine.{Change, deliver, take_back, close, conditions}
 use Rattle.index.specs.Index.{short_index}
-use Rattle.audit.specs.declared.Afresh.{Afresh}
 use Rattle.audit.specs.Audit.{afresh, all_same}
 use Rattle.book.specs.declared.Book.{Book}
 use Rattle.book.specs.Library.{Lent, view, unsound, guards, number, outcome, accepted, called, totals_given}
-use Rattle.book.proofs.Sound.{Sound, sound, not_short, not_unsound, judged}
+use Rattle.book.proofs.Sound.{Sound, sound, not_short, not_unsound, judged_none, judged_some}
 
 -- where none of the numbers before a call's own applies, the book is sound
 pub guarded : (b : Book) (l : Lent) → first (guards b l) ≡ 0 → Sound b l
@@ -70,23 +72,23 @@ called-number b l c = go (eqb (number b l c) 0) refl
     go false e = refl
 
 -- What the tests of the index's length and of the sums afresh say of the numbers before a call's own.
-pub judged-short : (b : Book) (l : Lent) → short_index b.master.count l.index ≡ true → 17 ≡ first (guards b l)
-judged-short b l h = sym (stop 17 _ h)
+module _ (b : Book) (l : Lent) where
+  pub judged-short : short_index b.master.count l.index ≡ true → 17 ≡ first (guards b l)
+  judged-short h = sym (stop 17 _ h)
 
-pub record Judged (b : Book) (l : Lent) (r : Afresh) (equal : Bool) : Type 0 where
-  pub long : short_index b.master.count l.index ≡ false
-  pub summed : r ≡ afresh b.master b.length l.journal l.index
-  pub compared : equal ≡ all_same b.totals r.totals
+  -- The index is not too short.
+  module _ (long : short_index b.master.count l.index ≡ false) where
+    -- the entries have no sums afresh
+    pub judged-unlawful : afresh b.master b.length l.journal l.index ≡ None → 7 ≡ first (guards b l)
+    judged-unlawful h = sym (skip 17 _ long ∙ stop 7 0 (judged_none b l h))
 
-module _ {b : Book} {l : Lent} {r : Afresh} {equal : Bool} (k : Judged b l r equal) where
-  seven : (r.lawful && equal) ≡ not (unsound b l)
-  seven = judged b l r equal k.summed k.compared
+    -- they have, which the stored totals are compared with
+    module _ (ts : List Figures) (sums : afresh b.master b.length l.journal l.index ≡ Some ts) where
+      pub judged-sound : all_same b.totals ts ≡ true → 0 ≡ first (guards b l)
+      judged-sound h = sym (skip 17 _ long ∙ skip 7 0 (not-true (unsound b l) (sym (judged_some b l ts sums) ∙ h)))
 
-  pub judged_sound : (r.lawful && equal) ≡ true → 0 ≡ first (guards b l)
-  judged_sound h = sym (skip 17 _ k.long ∙ skip 7 0 (not-true (unsound b l) (sym seven ∙ h)))
-
-  pub judged-unsound : (r.lawful && equal) ≡ false → 7 ≡ first (guards b l)
-  judged-unsound h = sym (skip 17 _ k.long ∙ stop 7 0 (not-false (unsound b l) (sym seven ∙ h)))
+      pub judged-unsound : all_same b.totals ts ≡ false → 7 ≡ first (guards b l)
+      judged-unsound h = sym (skip 17 _ long ∙ stop 7 0 (not-false (unsound b l) (sym (judged_some b l ts sums) ∙ h)))
 
 -- what totals gives of a sound book
 pub sound_given : {b : Book} {l : Lent} → Sound b l

@@ -1,16 +1,18 @@
 -- What a book has that is sound, with an index that is long enough: number 7 of document 01, and 17, taken apart and put together.
 -- Assumes nothing.
 use Prim.Native.Nat.{◌≤◌}
-use mathlib.Core.Path.{◌≡◌, refl, sym, ap, ap₂, ◌∙◌}
-use mathlib.Core.Bool.{Bool, true, false, cond, not, ◌&&◌, ◌||◌}
+use mathlib.Core.Path.{◌≡◌, refl, sym, ap, subst, ◌∙◌}
+use mathlib.Core.Bool.{Bool, true, false, cond, not, ◌||◌}
+use mathlib.Core.List.{List}
 use borrow.Author.Tests.{not-false}
 use lib.ListN.{length}
+use Rattle.std.specs.Prelude.{Option, None, Some, MatchOption, unwrap_or, ⊤}
+use Rattle.worth.specs.declared.Figures.{Figures}
 use Rattle.index.specs.Index.{short_index}
 use Rattle.refusals.proofs.Tests.{neither, not_not}
 use Rattle.machine.specs.Machine.{capacity_of, totals_in}
-use Rattle.audit.specs.declared.Afresh.{Afresh}
 use Rattle.master_data.specs.Master.{frame_of}
-use Rattle.audit.specs.Audit.{any_stopped, unlawful, no_sums, afresh, all_same, wrong_totals}
+use Rattle.audit.specs.Audit.{any_stopped, unlawful, afresh, all_same, wrong_totals}
 use Rattle.audit.proofs.Equal.{all_same_lem, all_self}
 use Rattle.audit.proofs.Lawful.{Lawful, lawful, long_enough, not_unlawful}
 use Rattle.master_data.proofs.Ranged.{Ranged}
@@ -49,18 +51,27 @@ not_unsound {b} {l} s =
     let t : all_same b.totals (totals_in (view b l)) ≡ true = ap (all_same b.totals) (sym s.totals) ∙ all_self b.totals in
     rw (not_unlawful b.master b.length l.journal l.index (journal_lawful s), t)
 
--- the test of the sums afresh
-pub judged : (b : Book) (l : Lent) (r : Afresh) (equal : Bool) → r ≡ afresh b.master b.length l.journal l.index
-    → equal ≡ all_same b.totals r.totals → (r.lawful && equal) ≡ not (unsound b l)
-unfolding afresh unsound wrong_totals
-judged b l r equal e q =
-    ap₂ (λ (x : Afresh) (y : Bool). x.lawful && y) e (q ∙ ap (λ (x : Afresh). all_same b.totals x.totals) e)
-    ∙ go (unlawful b.master b.length l.journal l.index)
-  where
-    sums : Afresh
-    sums = record { lawful = true; totals = totals_in (view b l) }
+-- The test of the sums afresh.
+module _ (b : Book) (l : Lent) where
+  abbrev sums : List Figures
+  sums = totals_in (view b l)
 
-    go : (t : Bool) → ((cond t no_sums sums).lawful && all_same b.totals (cond t no_sums sums).totals)
-        ≡ not (t || not (all_same b.totals (totals_in (view b l))))
-    go true = refl
-    go false = sym (not_not _)
+  -- where there are none the book is unsound
+  pub judged_none : afresh b.master b.length l.journal l.index ≡ None → unsound b l ≡ true
+  unfolding afresh unsound
+  judged_none = go (unlawful b.master b.length l.journal l.index)
+    where
+      go : (t : Bool) → cond t None (Some sums) ≡ None → (t || wrong_totals b.master b.length l.journal b.totals) ≡ true
+      go true e = refl
+      go false e = absurd (subst (λ (o : Option (List Figures)). MatchOption o ⊥ (λ _. ⊤)) e tt)
+
+  -- where there are some the stored totals decide
+  pub judged_some : (ts : List Figures) → afresh b.master b.length l.journal l.index ≡ Some ts → all_same b.totals ts ≡ not (unsound b l)
+  unfolding afresh unsound wrong_totals
+  judged_some ts = go (unlawful b.master b.length l.journal l.index)
+    where
+      go : (t : Bool) → cond t None (Some sums) ≡ Some ts → all_same b.totals ts ≡ not (t || not (all_same b.totals sums))
+      go true e = absurd (subst (λ (o : Option (List Figures)). MatchOption o ⊤ (λ _. ⊥)) e tt)
+      go false e =
+          let same : sums ≡ ts = ap (λ (o : Option (List Figures)). unwrap_or o sums) e in
+          sym (not_not _ ∙ ap (all_same b.totals) same)

@@ -11,15 +11,13 @@ use lib.Seq.{paste}
 use Rattle.refusals.specs.Refusals.{first}
 use Rattle.refusals.proofs.First.{none_holds}
 use Rattle.entry_record.specs.declared.Entry.{Entry}
-use Rattle.entry_record.specs.declared.EntryAnswer.TheVariants.{Read, Refused}
+use Rattle.std.specs.Prelude.{Option, None, Some, Result, Ok, Err, ⊤}
 use Rattle.entry_record.specs.Entry.{decoded_entry}
 use Rattle.entry_record.proofs.Laws.{entry_reads}
-use Rattle.answers.specs.declared.Answer.{Answer}
-use Rattle.answers.specs.declared.Answer.TheVariants.{Accepted}
-use Rattle.answers.specs.Numbers.{number_of}
+use Rattle.answers.specs.declared.Refusal.{Refusal}
+use Rattle.answers.specs.Numbers.{number_of, answered}
+use Rattle.answers.proofs.Refusing.{refused-number}
 use Rattle.machine.specs.Machine.{take_back, capacity_of, empty, conditions}
-use Rattle.journal.specs.declared.StandingEntry.{StandingEntry}
-use Rattle.journal.specs.declared.StandingEntry.TheVariants.{Found}
 use Rattle.journal.specs.Journal.{bytes_at, entries, standing_place}
 use Rattle.journal.specs.Found.{found_at}
 use Rattle.journal.proofs.Entries.{length-entries, place_most}
@@ -35,32 +33,30 @@ use Rattle.walk.proofs.Noted.{Noted, has_place, noted_less}
 use Rattle.filing.proofs.Alike.{alike_before}
 use Rattle.filing.proofs.Deliveries.{noted}
 use Rattle.book.specs.declared.Book.{Book}
-use Rattle.book.specs.declared.Reply.{Reply}
 use Rattle.book.specs.Library.{Lent, lent, view, with_length, with_totals, unposted, outcome, called}
-use Rattle.book.specs.Steps.{reply, restated_held}
+use Rattle.book.specs.Steps.{restated_held}
 use Rattle.book.proofs.Numbers.{sound_refused, sound_accepted}
-use Rattle.book.proofs.Replies.{replied}
 use Rattle.book.proofs.Sound.{Sound, journal_lawful}
 
 -- A sound book, and the answer that the code's tests of 8 and 11 give.
-pub record Answered (b : Book) (l : Lent) (a : Answer) : Type 0 where
+pub record Tested (b : Book) (l : Lent) (a : Result ⊤ Refusal) : Type 0 where
   pub sound : Sound b l
-  pub number : number_of a ≡ first ((8, b.closed) ∷ (11, eqb b.length 0) ∷ [])
+  pub number : answered a ≡ first ((8, b.closed) ∷ (11, eqb b.length 0) ∷ [])
 
-module _ {b : Book} {l : Lent} {a : Answer} (k : Answered b l a) where
+module _ {b : Book} {l : Lent} {a : Result ⊤ Refusal} (k : Tested b l a) where
   -- its number is the machine's
-  machine_number : first (conditions (view b l) take_back) ≡ number_of a
+  machine_number : first (conditions (view b l) take_back) ≡ answered a
   unfolding empty
   machine_number = rw (length-entries b.length l.journal) (sym k.number)
 
   -- 8 and 11
-  pub is_refused : 0 < number_of a → outcome (number_of a) b l ≡ called b l take_back
-  is_refused p = sound_refused k.sound take_back (number_of a) p machine_number
+  pub is_refused : (r : Refusal) → a ≡ Err r → outcome (number_of r) b l ≡ called b l take_back
+  is_refused r h = sound_refused k.sound take_back (number_of r) (refused-number r) (machine_number ∙ ap answered h)
 
   -- Accepted.
-  module _ (accepts : a ≡ Accepted) where
-    zero_number : number_of a ≡ 0
-    zero_number = ap number_of accepts
+  module _ (t : ⊤) (accepts : a ≡ Ok t) where
+    zero_number : answered a ≡ 0
+    zero_number = ap answered accepts
 
     -- there is an entry
     pub is_some : 1 ≤ b.length
@@ -89,11 +85,11 @@ module _ {b : Book} {l : Lent} {a : Answer} (k : Answered b l a) where
     passing = passes_at (frame_of b.master) (suc (b.length - 1)) (b.length - 1) l.journal none (omega arith)
 
     -- it can be read
-    pub is_read : decoded_entry (bytes_at (b.length - 1) l.journal) ≡ Refused → ⊥
+    pub is_read : decoded_entry (bytes_at (b.length - 1) l.journal) ≡ None → ⊥
     is_read h = true≢false (sym (entry_reads.refused_is (bytes_at (b.length - 1) l.journal) h) ∙ passing.readable)
 
     -- It was read.
-    module _ {e : Entry} (read : decoded_entry (bytes_at (b.length - 1) l.journal) ≡ Read e) where
+    module _ {e : Entry} (read : decoded_entry (bytes_at (b.length - 1) l.journal) ≡ Some e) where
       here : Inside b.master e
       here = inside b.master e (sym (outside_read (bytes_at (b.length - 1) l.journal) read (frame_of b.master)) ∙ passing.within)
 
@@ -107,13 +103,13 @@ module _ {b : Book} {l : Lent} {a : Answer} (k : Answered b l a) where
         is_place = has_place says here place own
 
         -- it is taken back, and its place says the position of the one that stood before it
-        pub is_unposted : {position : ℕ} {found : StandingEntry} {after x : List ℕ} {r : Reply}
+        pub is_unposted : {position : ℕ} {found : Option Entry} {after x : List ℕ} {left : Book}
             → position ≡ standing_place e.point e.quarter (b.length - 1) l.journal → found ≡ found_at position l.journal
             → after ≡ paste l.journal (12 * (b.length - 1)) (replicate 12 0) 12 → x ≡ set l.index place position
-            → r ≡ reply (restated_held b e.point found (Found e) (b.length - 1)) Accepted
-            → outcome (number_of r.answer) r.book (lent after x) ≡ called b l take_back
+            → left ≡ restated_held b e.point found (Some e) (b.length - 1)
+            → outcome 0 left (lent after x) ≡ called b l take_back
         unfolding unposted
-        is_unposted stood looked ea ex er =
+        is_unposted {after = after} {x = x} stood looked ea ex er =
             let s = k.sound in
             let n = b.length - 1 in
             let j = l.journal in
@@ -123,5 +119,6 @@ module _ {b : Book} {l : Lent} {a : Answer} (k : Answered b l a) where
             let index =
             ex ∙ ap (set l.index place) stood
             ∙ noted_less says here place own (same (bytes_at n j) read) (paste j (12 * n) zeros 12) (alike_before n j zeros (omega (arith, lies))) in
-            replied er ((λ i. outcome 0 (with_length (with_totals b (sums i)) n) (lent (ea i) (index i)))
-            ∙ sound_accepted s take_back (machine_number ∙ zero_number))
+            ap (λ (c : Book). outcome 0 c (lent after x)) er
+            ∙ (λ i. outcome 0 (with_length (with_totals b (sums i)) n) (lent (ea i) (index i)))
+            ∙ sound_accepted s take_back (machine_number ∙ zero_number)

@@ -1,11 +1,12 @@
 -- What the calls of the library do to a book and to what is lent. Assumes nothing.
-use Rattle.std.specs.Prelude.{ℕ, ◌+◌, ◌-◌, ◌*◌, Bool, true, cond, ◌||◌, List, [], ◌∷◌, ◌++◌, eqb, length, replicate}
+use Rattle.std.specs.Prelude.{ℕ, ◌+◌, ◌-◌, ◌*◌, Bool, true, cond, ◌||◌, List, [], ◌∷◌, ◌++◌, eqb, length, replicate, Result, Ok, Err}
 use Rattle.std.proofs.Math.Seq.{paste}
 use Rattle.refusals.specs.Refusals.{first}
 use Rattle.entry_record.specs.declared.Entry.{Entry}
 use Rattle.entry_record.specs.Entry.{entry_in}
 use Rattle.worth.specs.declared.Figures.{Figures}
 use Rattle.worth.specs.Figures.{nothing}
+use Rattle.answers.specs.declared.Refusal.{Refusal}
 use Rattle.answers.specs.Numbers.{number_of}
 use Rattle.machine.specs.Machine as machine
 use Rattle.machine.specs.Machine.{State, Change, deliver, take_back, close, Call, change, totals, capacity_of, conditions}
@@ -120,9 +121,14 @@ totals_given b l =
     (record { number = 0; figures = b.totals; entries = b.length })
     (record { number = first (guards b l); figures = replicate 8 nothing; entries = 0 })
 
--- an answer of totals, as numbers
-abbrev pub totals_answer : Totals → machine.Answer
-totals_answer t = record { number = number_of t.answer; figures = t.points; entries = t.length }
+-- no figures and no entries
+abbrev pub no_totals : Totals
+no_totals = record { points = replicate 8 nothing; length = 0 }
+
+-- an answer of totals, as numbers. "Beside a refusal's number every other figure given is 0"
+abbrev pub totals_answer : Result Totals Refusal → machine.Answer
+totals_answer (Ok t) = record { number = 0; figures = t.points; entries = t.length }
+totals_answer (Err r) = record { number = number_of r; figures = replicate 8 nothing; entries = 0 }
 
 -- what the caller gets from a call, and book and what is lent after it; totals changes nothing
 abbrev pub answer : Book → Lent → Call → machine.Answer

@@ -6,14 +6,15 @@
 
 mod calls;
 mod judgement;
+mod no_totals;
 
-use answers::Answer;
+use answers::Refusal;
 pub use judgement::judge;
 use master_data::MasterData;
 use worth::Figures;
 
 // The book. Its fields are public, and no call trusts them: each tests them against 01's number 7.
-#[derive(Clone, Copy)]
+#[derive(Clone, Copy, Debug, PartialEq, Eq)]
 pub struct Book {
     pub master: MasterData,
     pub length: usize,
@@ -22,17 +23,15 @@ pub struct Book {
 }
 
 // A book handed back, and the answer of the call that hands it back.
-#[derive(Clone, Copy)]
+#[derive(Clone, Copy, Debug, PartialEq, Eq)]
 pub struct Reply {
     pub book: Book,
-    pub answer: Answer,
+    pub answer: Result<(), Refusal>,
 }
 
-// What totals gives: the figures of each point and how many entries the journal has, all 0 beside a
-// refusal.
-#[derive(Clone, Copy)]
+// What totals gives: the figures of each point and how many entries the journal has.
+#[derive(Clone, Copy, Debug, PartialEq, Eq)]
 pub struct Totals {
-    pub answer: Answer,
     pub points: [Figures; 8],
     pub length: usize,
 }

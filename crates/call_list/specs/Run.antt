@@ -1,8 +1,9 @@
 -- Demand 3 as the promise of one function: what running a script on a file answers is what the machine answers to its calls.
 -- Assumes nothing.
-use Rattle.std.specs.Prelude.{ℕ, cond, not, List, [], ◌∷◌, ◌++◌, ltb, eqb, length, drop}
+use Rattle.std.specs.Prelude.{ℕ, cond, not, List, [], ◌∷◌, ◌++◌, ltb, eqb, length, drop, Result, Ok, Err}
 use Rattle.bits.specs.Fields.{words}
 use Rattle.refusals.specs.Refusals.{first}
+use Rattle.answers.specs.declared.Refusal.{Refusal}
 use Rattle.answers.specs.Numbers.{number_of}
 use Rattle.machine.specs.Machine as machine
 use Rattle.book.specs.Library as library
@@ -11,7 +12,6 @@ use Rattle.opening.specs.Opening.{opening_number, opened_book, opened_lent}
 use Rattle.demand.specs.Demand.{beside}
 use Rattle.call_script.specs.Script.{calls}
 use Rattle.call_answers.specs.Answers.{all_numbers}
-use Rattle.call_list.specs.declared.Ran.{Ran}
 
 -- the bytes of the machine's answers to the calls that the script holds; of what is lent it is fed the journal's length alone
 unfoldable pub answered : List ℕ → List ℕ → ℕ → List ℕ
@@ -33,8 +33,10 @@ pub record RunResult : Type 0 where
 abbrev pub run_result : ℕ → ℕ → Lent → List ℕ → RunResult
 run_result n taken l out = record { number = n; taken = taken; lent = l; answers = out }
 
-abbrev pub run_given : Ran → Lent → List ℕ → RunResult
-run_given r l out = run_result (number_of r.answer) r.length l out
+-- of an answer. "Beside a refusal's number every other figure given is 0"
+abbrev pub run_given : Result ℕ Refusal → Lent → List ℕ → RunResult
+run_given (Ok taken) l out = run_result 0 taken l out
+run_given (Err r) l out = run_result (number_of r) 0 l out
 
 -- journal and index are as the calls leave them, one index being lent to the opening and to all of them; bytes behind the answers
 -- stay; beside a refusal's number all is as it was

@@ -1,14 +1,15 @@
 // One call of a script: making it, and putting its answer into the slice of answers.
 ghost use Rattle.std.specs.Prelude.{◌≡◌, ◌+◌, ◌≤◌, ◌<◌, length};
 ghost use Rattle.bits.specs.Fields.{with_words};
-ghost use Rattle.answers.specs.Numbers.{number_of};
+ghost use Rattle.answers.specs.Numbers.{answered};
 ghost use Rattle.book.specs.Library.{lent, outcome, answer, after};
 ghost use Rattle.call_script.specs.Script.{byte_at, size_at, call_at};
 ghost use Rattle.call_script.specs.Room.{room};
 ghost use Rattle.call_answers.specs.Answers.{numbers};
 
+use answers::answered;
 use bits::put_words;
-use book::{Book, Reply};
+use book::{Book, Reply, Totals};
 use call_answers::put_totals;
 
 // Makes the call at `at` in the script, and puts its answer into `output` from `to` on.
@@ -28,24 +29,21 @@ pub(crate) fn answer_call(
     ensures output_after { output.new ≡ with_words output.old to (numbers (answer book (lent journal.old index.old) (call_at script.now at))) }
 {
     if script[at] == 3 {
-        let totals = book.totals(journal, index);
-        let verdict = totals.answer;
-        let points = totals.points;
-        put_totals(output, to, verdict.number(), totals.length, points);
+        let given = book.totals(journal, index);
+        let totals = given.unwrap_or(Totals::none());
+        put_totals(output, to, answered(&given), totals.length, totals.points);
         return book;
     }
-    let reply = make_change(book, script, at, journal, index);
-    let verdict = reply.answer;
-    let word = [verdict.number() as u64];
-    put_words(output, to, &word);
-    reply.book
+    let Reply { book, answer } = make_change(book, script, at, journal, index);
+    put_words(output, to, &[answered(&answer) as u64]);
+    book
 }
 
 // Makes the call at `at`, which is not totals.
 fn make_change(book: Book, script: &[u8], at: usize, journal: &mut [u8], index: &mut [u16]) -> Reply
     requires at_nonzero { 0 < size_at script.now at }
     requires at_bound { byte_at script.now at < 3 }
-    ensures { outcome (number_of result.answer) result.book (lent journal.new index.new) ≡ after book (lent journal.old index.old) (call_at script.now at) }
+    ensures { outcome (answered result.answer) result.book (lent journal.new index.new) ≡ after book (lent journal.old index.old) (call_at script.now at) }
 {
     let kind = script[at];
     if kind == 1 {

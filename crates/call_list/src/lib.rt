@@ -4,13 +4,4 @@
 mod answering;
 mod running;
 
-use answers::Answer;
 pub use running::run_calls;
-
-// What running a list of calls gives: the answer, and how many bytes the calls' answers take, 0 beside
-// a refusal.
-#[derive(Clone, Copy)]
-pub struct Ran {
-    pub answer: Answer,
-    pub length: usize,
-}

@@ -9,42 +9,30 @@ ghost use Rattle.call_script.specs.Room.{room_of};
 ghost use Rattle.call_answers.specs.Answers.{all_numbers};
 ghost use Rattle.call_list.specs.Run.{run_given, running};
 
-use crate::Ran;
 use crate::answering::answer_call;
-use answers::Answer;
-use book::Book;
+use answers::Refusal;
+use book::{Book, Reply};
 use call_script::{fits, room_at, size_at};
 use opening::open;
 
 // Opens the file, makes the calls that the script holds, all on one journal and one index, and puts their answers
-// into the first bytes of `answers`. Where these are too few nothing is opened.
+// into the first bytes of `answers`; gives how many bytes these take. Where there are too few nothing is opened.
 pub fn run_calls(
     file: &[u8],
     script: &[u8],
     journal: &mut [u8],
     index: &mut [u16],
     answers: &mut [u8],
-) -> Ran
+) -> Result<usize, Refusal>
     ensures { run_given result (lent journal.new index.new) answers.new ≡ running file.now script.now (lent journal.old index.old) answers.old }
 {
     // Before the opening, which zeroes the index.
     if !fits(script, answers.len()) {
-        return Ran {
-            answer: Answer::ShortOutput,
-            length: 0,
-        };
+        return Err(Refusal::ShortOutput);
     }
-    let opened = open(file, index);
-    let book = opened.book;
-    let answer = opened.answer;
-    let Answer::Accepted = answer else {
-        return Ran { answer, length: 0 };
-    };
-    let length = make_calls(book, script, journal, index, answers);
-    Ran {
-        answer: Answer::Accepted,
-        length,
-    }
+    let Reply { book, answer } = open(file, index);
+    answer?;
+    Ok(make_calls(book, script, journal, index, answers))
 }
 
 // Makes the calls one after the other, and gives how many bytes their answers take.

@@ -3,12 +3,13 @@ use Prim.Native.Nat.{ℕ, zero, suc, ◌+◌, ◌≤◌, ◌<◌}
 use mathlib.Core.Path.{◌≡◌, refl, sym, ap, ◌∙◌}
 use mathlib.Core.Bool.{Bool, true, false, not, ◌&&◌, ◌||◌}
 use mathlib.Core.List.{List, ◌++◌}
-use native.Mathlib.Numerals.{add-one}
 use native.Mathlib.Omega.{arith}
-use borrow.Author.Tests.{eqb-true, eq-eqb, ltb-false, lt-ltb, le-ltb, not-false}
+use borrow.Author.Tests.{eqb-true, eq-eqb, ltb-false, lt-ltb, le-ltb, not-true, not-false}
 use lib.Dec.{eqb}
 use lib.ListN.{length, get_or, take, drop, length-append, take-append-drop, get_or-append}
 use lib.Seq.{ext_get_or, get_or-take, length-take-le}
+use Rattle.std.specs.Bool.{Decides}
+use Rattle.std.proofs.lemmas.Bool.Decides.{same_from_decides}
 use Rattle.lists.specs.Lists.{any_below}
 use Rattle.lists.proofs.Laws.{none-at, tests_same}
 use Rattle.index.specs.Index.{places_of, index_of, indexed, short_index, differ}
@@ -29,29 +30,44 @@ pub not_short : (count : ℕ) (slice : List ℕ) → places_of count ≤ length 
 unfolding short_index
 not_short count slice h = le-ltb (length slice) (places_of count) h
 
--- none of no places differs
-pub none_differ : (one other : List ℕ) → true ≡ not (differ 0 one other)
-unfolding differ any_below
-none_differ one other = refl
-
--- both of two tests hold where neither fails
-both_hold : (a b : Bool) → (not a && b) ≡ not (a || not b)
-both_hold true b = refl
-both_hold false true = refl
-both_hold false false = refl
-
--- one place more
-pub differ-next : (n : ℕ) (one other : List ℕ) (same : Bool) → same ≡ not (differ n one other)
-    → (same && eqb (get_or one n 0) (get_or other n 0)) ≡ not (differ (n + 1) one other)
-unfolding differ any_below
-differ-next n one other same e =
-    rw (add-one, e) (both_hold (differ n one other) (eqb (get_or one n 0) (get_or other n 0)))
-
 -- none of the places below n passes a test where each of them fails it
 none_below : (p : ℕ → Bool) (n : ℕ) → ((i : ℕ) → i < n → p i ≡ false) → any_below p n ≡ false
 unfolding any_below
 none_below p zero h = refl
 none_below p (suc n) h = rw (none_below p n (λ i k. h i (omega arith)), h n (omega arith))
+
+-- one that has the places has them in its part in front
+pub front_long : (count places : ℕ) (slice : List ℕ) → places ≡ places_of count → short_index count slice ≡ false
+    → length (take places slice) ≡ places
+front_long count places slice e h = length-take-le places slice (omega (arith, e, long_enough count slice h))
+
+-- Two slices, and the parts of them with the first n places.
+module _ (n : ℕ) (one other : List ℕ) (long : length (take n one) ≡ n) (also : length (take n other) ≡ n) where
+  -- where no place differs, the parts are equal
+  parts_same : differ n one other ≡ false → take n one ≡ take n other
+  unfolding differ
+  parts_same h =
+      ext_get_or 0 (take n one) (take n other) (long ∙ sym also)
+      (λ i within.
+      let k : i < n = omega arith in
+      get_or-take n one i 0 k
+      ∙ eqb-true _ _ (not-false _ (none-at (λ x. not (eqb (get_or one x 0) (get_or other x 0))) n i h k))
+      ∙ sym (get_or-take n other i 0 k))
+
+  -- where the parts are equal, no place differs
+  none_differ : take n one ≡ take n other → differ n one other ≡ false
+  unfolding differ
+  none_differ e =
+      none_below (λ k. not (eqb (get_or one k 0) (get_or other k 0))) n
+      (λ k h.
+      ap not
+      (eq-eqb _ _ (sym (get_or-take n one k 0 h) ∙ ap (λ (l : List ℕ). get_or l k 0) e ∙ get_or-take n other k 0 h)))
+
+  -- so whether they are equal says whether none differs
+  pub agrees : (same : Bool) → Decides same (take n one ≡ take n other) → same ≡ not (differ n one other)
+  agrees same d =
+      same_from_decides same (not (differ n one other)) d
+      ((λ h. parts_same (not-true _ h)), (λ e. ap not (none_differ e)))
 
 -- An index of so many points, in a month of so many quarters, of the first n entries.
 module _ (count quarters n : ℕ) (j : List ℕ) where

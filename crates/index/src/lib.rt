@@ -30,9 +30,7 @@ pub fn clear(index: &mut [u16], count: u8)
     ensures { index.new ≡ cleared count index.old }
 {
     let places = places_of(count);
-    for place in 0..places {
-        index[place] = 0;
-    }
+    index[..places].fill(0);
 }
 
 // Whether two indexes say the same in the places of so many points.
@@ -42,12 +40,5 @@ pub fn agree(one: &[u16], other: &[u16], count: u8) -> bool
     ensures { result ≡ not (differ (places_of count) one.now other.now) }
 {
     let compared = places_of(count);
-    let mut same = true;
-    // Without leaving early, many places are compared at once.
-    for place in 0..compared {
-        let said = one[place];
-        let due = other[place];
-        same = same & (said == due);
-    }
-    same
+    one[..compared] == other[..compared]
 }

@@ -1,10 +1,11 @@
 -- What open gives: document 01, "Open reads a whole file's header and points", its numbers 1 to 4, and 02's index. Assumes nothing.
-use Rattle.std.specs.Prelude.{ℕ, ◌+◌, ◌-◌, ◌*◌, Bool, true, false, cond, not, List, [], ◌∷◌, ◌++◌, ltb, eqb, length, take, drop, replicate}
+use Rattle.std.specs.Prelude.{ℕ, ◌+◌, ◌-◌, ◌*◌, Bool, true, false, cond, not, List, [], ◌∷◌, ◌++◌, ltb, eqb, length, take, drop, replicate, Option, None, Some, Result, Ok, Err}
 use Rattle.header_record.specs.declared.Header.{Header}
 use Rattle.point_record.specs.declared.Point.{Point}
 use Rattle.header_record.specs.Header.{header_in, wrong_header}
 use Rattle.point_record.specs.Point.{point_in, wrong_point, no_point}
 use Rattle.refusals.specs.Refusals.{first}
+use Rattle.answers.specs.declared.Refusal.{Refusal}
 use Rattle.worth.specs.Figures.{nothing}
 use Rattle.lists.specs.Lists.{any_below, places_below}
 use Rattle.index.specs.Index.{short_index, cleared}
@@ -32,6 +33,10 @@ points file = first_points (header file).points file
 -- 4: "A point record breaks a rule above.": one of the first n
 abbrev pub any_wrong : ℕ → List ℕ → Bool
 any_wrong n file = any_below (λ i. wrong_point (point_bytes i file)) n
+
+-- the first n points with points of zeros past them, unless one of them is wrong
+unfoldable pub read_points : ℕ → List ℕ → Option (List Point)
+read_points n file = cond (any_wrong n file) None (Some (first_points n file ++ replicate (8 - n) no_point))
 
 -- 3: "Length differs from 7 + 21 · points + 12 · entries."
 unfoldable pub wrong_length : List ℕ → Bool
@@ -75,6 +80,11 @@ fresh_of m = record { master = m; length = 0; closed = false; totals = replicate
 -- "A refused open .. hand[s] back the void book"
 unfoldable pub opened_book : List ℕ → List ℕ → Book
 opened_book file x = cond (eqb (opening_number file x) 0) (fresh_of (master_of (header file) (padded (points file)))) void
+
+-- what is handed back for a book or a refusal
+abbrev pub handed_back : Result Book Refusal → Book
+handed_back (Ok b) = b
+handed_back (Err _) = void
 
 -- 02, Ticket 6: "Opening zeroes those places"; 01: "A refused call changes neither book nor buffer"
 unfoldable pub opened_index : List ℕ → List ℕ → List ℕ

@@ -1,94 +1,75 @@
 // Opening a file: the fresh book of its header and points, and an index that says nothing yet.
 #![tactic(auto)]
 
-ghost use Rattle.std.specs.Prelude.{◌≡◌, true, not, ◌++◌, ◌+◌, ◌-◌, ◌*◌, ◌≤◌, length, replicate};
+ghost use Rattle.std.specs.Prelude.{◌≡◌, ◌+◌, ◌*◌, ◌≤◌, length};
 ghost use Rattle.point_record.specs.Point.{no_point};
-ghost use Rattle.answers.specs.declared.Answer.TheVariants.{Accepted};
-ghost use Rattle.answers.specs.Numbers.{number_of};
-ghost use Rattle.book.specs.Steps.{reply};
-ghost use Rattle.opening.specs.Opening.{first_points, any_wrong, opening_number, master_of, void, fresh_of, opened_book, opened_index};
+ghost use Rattle.answers.specs.Numbers.{answered};
+ghost use Rattle.opening.specs.Opening.{read_points, opening_number, master_of, void, fresh_of, handed_back, opened_book, opened_index};
 
-use answers::Answer;
+use answers::Refusal;
 use book::{Book, Reply};
-use header_record::{Header, HeaderAnswer, decode_header};
+use header_record::{Header, decode_header};
 use index::{clear, places_of};
 use master_data::MasterData;
-use point_record::{Point, PointAnswer, decode_point};
+use point_record::{Point, decode_point};
 use quarter::{Level, Tariffs, Transformer};
 use worth::Figures;
-
-// The points of a file, and whether each keeps the rules.
-#[derive(Clone, Copy)]
-struct PointsRead {
-    right: bool,
-    points: [Point; 8],
-}
 
 // Opens a file: a book of its month and points, with no entry yet, or the void book beside a refusal. Accepted, it
 // zeroes the index's places of these points.
 pub fn open(file: &[u8], index: &mut [u16]) -> Reply
-    ensures answer_value { number_of result.answer ≡ opening_number file.now index.old }
+    ensures answer_value { answered result.answer ≡ opening_number file.now index.old }
     ensures book_value { result.book ≡ opened_book file.now index.old }
     ensures index_after { index.new ≡ opened_index file.now index.old }
 {
-    if file.len() < 7 {
-        return refused(Answer::TooShort);
+    match try_open(file, index) {
+        Ok(book) => Reply {
+            book,
+            answer: Ok(()),
+        },
+        Err(refusal) => Reply {
+            book: void(),
+            answer: Err(refusal),
+        },
     }
-    let HeaderAnswer::Read(header) = decode_header(&file[..7]) else {
-        return refused(Answer::WrongHeader);
-    };
+}
+
+// The fresh book, or the first refusal; it leaves the index as it is.
+fn try_open(file: &[u8], index: &mut [u16]) -> Result<Book, Refusal>
+    ensures answer_value { answered result ≡ opening_number file.now index.old }
+    ensures book_value { handed_back result ≡ opened_book file.now index.old }
+    ensures index_after { index.new ≡ opened_index file.now index.old }
+{
+    if file.len() < 7 {
+        return Err(Refusal::TooShort);
+    }
+    let header = decode_header(&file[..7]).ok_or(Refusal::WrongHeader)?;
     let count = header.points as usize;
     let entries = header.entries as usize;
     if file.len() != 7 + 21 * count + 12 * entries {
-        return refused(Answer::WrongLength);
+        return Err(Refusal::WrongLength);
     }
-    let read = read_points(file, count);
-    if !read.right {
-        return refused(Answer::WrongPoint);
-    }
+    let points = read_points(file, count).ok_or(Refusal::WrongPoint)?;
     if index.len() < places_of(header.points) {
-        return refused(Answer::ShortIndex);
+        return Err(Refusal::ShortIndex);
     }
     clear(index, header.points);
-    let points = read.points;
-    fresh(header, points)
+    Ok(fresh(header, points))
 }
 
-// A refused opening hands back the void book.
-fn refused(answer: Answer) -> Reply
-    ensures answer_value { result.answer ≡ answer }
-    ensures book_value { result.book ≡ void }
-{
-    Reply {
-        book: void(),
-        answer,
-    }
-}
-
-// Reads the points; the places past their count are zero.
-fn read_points(file: &[u8], count: usize) -> PointsRead
+// The points, and zeros in the places past their count; none where one of them breaks a rule.
+fn read_points(file: &[u8], count: usize) -> Option<[Point; 8]>
     requires count_in_bounds { 7 + 21 * count ≤ length file.now }
     requires count_bound { count ≤ 8 }
-    ensures right_value { result.right ≡ not (any_wrong count file.now) }
-    ensures points_value { result.right ≡ true → result.points ≡ first_points count file.now ++ replicate (8 - count) no_point }
+    ensures { result ≡ read_points count file.now }
 {
-    let none = no_point();
-    let mut points = [none; 8];
+    let mut points = [no_point(); 8];
     for i in 0..count {
         let start = 7 + 21 * i;
         let end = start + 21;
-        let PointAnswer::Read(point) = decode_point(&file[start..end]) else {
-            return PointsRead {
-                right: false,
-                points,
-            };
-        };
-        points[i] = point;
+        points[i] = decode_point(&file[start..end])?;
     }
-    PointsRead {
-        right: true,
-        points,
-    }
+    Some(points)
 }
 
 // A point of zeros.
@@ -114,47 +95,37 @@ fn no_point() -> Point
 }
 
 // The void book, 01's word for what a refused opening hands back: closed, no points, every number 0.
-fn void() -> Book
+pub fn void() -> Book
     ensures { result ≡ void }
 {
-    let none = no_point();
-    let nothing = Figures::none();
-    let points = [none; 8];
-    let totals = [nothing; 8];
     let master = MasterData {
         year: 0,
         month: 0,
         count: 0,
-        points,
+        points: [no_point(); 8],
     };
     Book {
         master,
         length: 0,
         closed: true,
-        totals,
+        totals: [Figures::none(); 8],
     }
 }
 
-// Accepted: the book of this month and these points with no entry.
-fn fresh(header: Header, points: [Point; 8]) -> Reply
-    ensures { result ≡ reply (fresh_of (master_of header points)) Accepted }
+// The book of this month and these points with no entry.
+fn fresh(header: Header, points: [Point; 8]) -> Book
+    ensures { result ≡ fresh_of (master_of header points) }
 {
-    let nothing = Figures::none();
-    let totals = [nothing; 8];
     let master = MasterData {
         year: header.year,
         month: header.month,
         count: header.points,
         points,
     };
-    let book = Book {
+    Book {
         master,
         length: 0,
         closed: false,
-        totals,
-    };
-    Reply {
-        book,
-        answer: Answer::Accepted,
+        totals: [Figures::none(); 8],
     }
 }

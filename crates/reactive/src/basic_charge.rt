@@ -16,11 +16,11 @@ pub fn reactive_basic_charge(
 ) -> u32
     ensures { (result, charge.new) ≡ called fixed_tariff points drawn.now fed_in.now charge.old }
 {
-    let made = basic_charge(fixed_tariff, points, drawn, fed_in);
-    let answer = made.answer;
-    let number = answer.number();
-    if number == 0 {
-        *charge = made.charge;
+    match basic_charge(fixed_tariff, points, drawn, fed_in) {
+        Ok(made) => {
+            *charge = made;
+            0
+        }
+        Err(refusal) => u32::from(refusal),
     }
-    number
 }

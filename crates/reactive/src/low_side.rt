@@ -25,12 +25,12 @@ pub fn reactive_low_side(
         i0: no_load_current,
         copper: copper_losses,
     };
-    let high = convert(low, sheet);
-    let answer = high.answer;
-    let number = answer.number();
-    if number == 0 {
-        *take = high.take;
-        *supply = high.supply;
+    match convert(low, sheet) {
+        Ok(high) => {
+            *take = high.take;
+            *supply = high.supply;
+            0
+        }
+        Err(refusal) => u32::from(refusal),
     }
-    number
 }

@@ -3,7 +3,8 @@ ghost use Rattle.std.specs.Prelude.{◌≡◌, ◌≤◌, length};
 ghost use Rattle.book.specs.Library.{lent};
 ghost use Rattle.reactive.specs.Measured.{asked, measured};
 
-use book::Book;
+use answers::answered;
+use book::{Book, Totals};
 use call_answers::put_totals;
 use posting::post;
 
@@ -22,10 +23,11 @@ pub fn reactive_post_totals(
         return 13;
     }
     let posted = post(file, journal, index);
-    let book = posted.book;
-    let verdict = posted.answer;
-    ask(book, journal, index, rounds, answer);
-    verdict.number()
+    ask(posted.book, journal, index, rounds, answer);
+    match posted.answer {
+        Ok(()) => 0,
+        Err(stopped) => u32::from(stopped.refusal),
+    }
 }
 
 // Asks for totals so many times.
@@ -34,9 +36,8 @@ fn ask(book: Book, journal: &[u8], index: &[u16], rounds: u32, output: &mut [u8]
     ensures { output.new ≡ asked rounds book (lent journal.now index.now) output.old }
 {
     for _ in 0..rounds {
-        let totals = book.totals(journal, index);
-        let verdict = totals.answer;
-        let points = totals.points;
-        put_totals(output, 0, verdict.number(), totals.length, points);
+        let given = book.totals(journal, index);
+        let totals = given.unwrap_or(Totals::none());
+        put_totals(output, 0, answered(&given), totals.length, totals.points);
     }
 }

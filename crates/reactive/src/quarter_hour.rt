@@ -5,7 +5,7 @@ ghost use Rattle.reactive.specs.QuarterHour.{arguments, point_in_range, role_of,
 
 use bits::put_words;
 use quantity::Grains;
-use quarter::{Metered, Role, Shares, classify, level_of, metered_in_range};
+use quarter::{Level, Metered, Role, Shares, classify, metered_in_range};
 use voltages::Voltage;
 
 // Answers 0 and puts the five shares into the first 40 bytes of `shares`; or 5 for an argument out
@@ -35,10 +35,8 @@ pub fn reactive_classify(
     if number != 0 {
         return number;
     }
-    store(
-        classify(role_of(role, band), level_of(level as u64), metered),
-        shares,
-    );
+    let level = Level::from(level as u64);
+    store(classify(role_of(role, band), level, metered), shares);
     0
 }
 

@@ -13,10 +13,11 @@ use Rattle.header_record.proofs.Laws.{header_reads}
 use Rattle.machine.specs.Machine.{capacity_of}
 use Rattle.opening.specs.Opening.{header_bytes, header, opening_number}
 use Rattle.opening.proofs.Accepted.{openable}
+use Rattle.std.specs.Prelude.{Result}
 use Rattle.posting.specs.Posting.{entries_of, posting}
 use Rattle.posting.proofs.Numbers.{numbers_given, posted-given}
 use Rattle.statement_text.specs.declared.Statement.{Statement}
-use Rattle.report.specs.Statement.{refused_by, of_book, input_most, journal_size, index_size, own_lent, statement}
+use Rattle.report.specs.Statement.{input_most, journal_size, index_size, own_lent, statement, number}
 use Rattle.report.specs.Statement.{NeverFull, NeverShort, numbers_seen, OnlyNumbersSeen}
 use Rattle.report.proofs.Statements.{statement_has}
 
@@ -34,20 +35,20 @@ index_long : index_size ≤ length own_lent.index
 unfolding own_lent
 index_long = omega (arith, length-replicate {A = ℕ} index_size 0)
 
--- a statement whose number is one that is seen
-abbrev Seen : Statement → Type 0
-Seen s = any_of (eqb s.number) numbers_seen ≡ true
+-- what is handed over with a number that is seen
+abbrev Seen : Result Statement ℕ → Type 0
+Seen s = any_of (eqb (number s)) numbers_seen ≡ true
 
 -- 0, 12, or a number of posting
 pub only_numbers_seen : OnlyNumbersSeen
-unfolding refused_by of_book numbers_seen any_of
+unfolding numbers_seen any_of
 only_numbers_seen input =
     let n = (posting input own_lent).number in
     statement_has Seen input refl refl
     (λ h. any_snoc (eqb n) numbers_given 12 ∙ rw (posted-given input own_lent index_long (journal_holds input h)))
 
 -- a number that is none of them is not handed over
-unseen : (n : ℕ) → any_of (eqb n) numbers_seen ≡ false → (input : List ℕ) → (statement input).number ≡ n → ⊥
+unseen : (n : ℕ) → any_of (eqb n) numbers_seen ≡ false → (input : List ℕ) → number (statement input) ≡ n → ⊥
 unseen n none input h = false≢true (sym none ∙ ap (λ (m : ℕ). any_of (eqb m) numbers_seen) (sym h) ∙ only_numbers_seen input)
 
 -- 10 is none

@@ -6,7 +6,6 @@ ghost use Rattle.std.specs.Prelude.{◌≡◌, ◌<◌};
 ghost use Rattle.restating.specs.Steps.{worth_at_point, worth_among, worth_standing, Placed, exchanged_at};
 
 use entry_record::Entry;
-use journal::StandingEntry;
 use point_record::Point;
 use worth::Figures;
 
@@ -16,8 +15,8 @@ pub fn restated(
     points: [Point; 8],
     totals: [Figures; 8],
     point: u8,
-    incoming: StandingEntry,
-    outgoing: StandingEntry,
+    incoming: Option<Entry>,
+    outgoing: Option<Entry>,
 ) -> [Figures; 8]
     requires point_bound { point < 8 }
     requires placed { Placed incoming }
@@ -48,13 +47,13 @@ pub fn worth_of(point: Point, entry: Entry) -> Figures
 }
 
 // What the entry that stands is worth; nothing where none does.
-fn worth_standing(points: [Point; 8], standing: StandingEntry) -> Figures
+fn worth_standing(points: [Point; 8], standing: Option<Entry>) -> Figures
     requires { Placed standing }
     ensures { result ≡ worth_standing points standing }
 {
     match standing {
-        StandingEntry::Nothing => Figures::none(),
-        StandingEntry::Found(entry) => worth_in(points, entry),
+        None => Figures::none(),
+        Some(entry) => worth_in(points, entry),
     }
 }
 

@@ -15,8 +15,9 @@ use Rattle.header_record.specs.Header.{header_in_range, encoded_header}
 use Rattle.point_record.specs.Point.{point_in_range}
 use Rattle.header_record.proofs.Laws.{header_overwriting}
 use Rattle.machine.specs.Machine.{capacity_of}
-use Rattle.answers.specs.declared.Answer.{Answer}
+use Rattle.answers.specs.declared.Refusal.{Refusal}
 use Rattle.answers.specs.Numbers.{number_of}
+use Rattle.answers.proofs.Refusing.{refused-number}
 use Rattle.master_data.specs.Master.{frame_of, month_of, wrong_month, wrong_point}
 use Rattle.master_data.proofs.Ranged.{count_most}
 use Rattle.audit.specs.Audit.{too_long}
@@ -24,8 +25,7 @@ use Rattle.audit.proofs.Placed.{entries-room}
 use Rattle.book.specs.declared.Book.{Book}
 use Rattle.book.specs.Library.{Lent, guards}
 use Rattle.book.proofs.Sound.{Sound}
-use Rattle.writing.specs.declared.Written.{Written}
-use Rattle.writing.specs.Writing.{header_of, written_header, written_points, file_of, file_length, write_number, WriteResult, write_result, write_given, refused_with, writing}
+use Rattle.writing.specs.Writing.{header_of, written_header, written_points, file_of, file_length, write_number, write_result, writing}
 use Rattle.writing.proofs.Filled.{returned, length_part, part_filled, length_filled}
 use Rattle.writing.proofs.PointsWritten.{length-points}
 
@@ -170,17 +170,14 @@ module _ {b : Book} {j : List ℕ} (w : Writable b j) (out : List ℕ) (room : f
         part_filled out pointed front begin points-written length_front end es (omega arith)
         ∙ ap (λ (bs : List ℕ). (front ++ bs) ++ drop end out) entries
 
--- a refusal handed back
-pub refused_with_lem : {r : Written} {a : Answer} {out : List ℕ} {w : WriteResult} → r ≡ refused_with a → write_result (number_of a) 0 out ≡ w
-    → write_given r out ≡ w
-refused_with_lem {out = out} e h = ap (λ (r : Written). write_given r out) e ∙ h
-
 -- What write answers.
 module _ (b : Book) (l : Lent) (out : List ℕ) where
   -- one of the numbers that come before its own
-  pub guard_answered : (n : ℕ) → 0 < n → n ≡ first (guards b l) → write_result n 0 out ≡ writing b l out
+  pub guard_answered : (r : Refusal) → number_of r ≡ first (guards b l) → write_result (number_of r) 0 out ≡ writing b l out
   unfolding writing write_number
-  guard_answered n p h = rw (decided (guards b l) ((13, ltb (length out) (file_length b)) ∷ []) n p (sym h), refuse p)
+  guard_answered r h =
+      let p = refused-number r in
+      rw (decided (guards b l) ((13, ltb (length out) (file_length b)) ∷ []) (number_of r) p (sym h), refuse p)
 
   -- None of these.
   module _ (none : first (guards b l) ≡ 0) where

@@ -1,17 +1,16 @@
 -- Document 01: "Write puts header (its entries field the length of L), points and L into a lent output and gives the file's
 -- length; output bytes past the file are untouched." Assumes nothing.
-use Rattle.std.specs.Prelude.{ℕ, ◌+◌, ◌*◌, cond, List, [], ◌∷◌, ◌++◌, ltb, eqb, length, take, drop, replicate}
+use Rattle.std.specs.Prelude.{ℕ, ◌+◌, ◌*◌, cond, List, [], ◌∷◌, ◌++◌, ltb, eqb, length, take, drop, replicate, Result, Ok, Err}
 use Rattle.refusals.specs.Refusals.{first}
 use Rattle.header_record.specs.declared.Header.{Header}
 use Rattle.point_record.specs.declared.Point.{Point}
 use Rattle.header_record.specs.Header.{encoded_header}
 use Rattle.point_record.specs.Point.{encoded_point}
-use Rattle.answers.specs.declared.Answer.{Answer}
+use Rattle.answers.specs.declared.Refusal.{Refusal}
 use Rattle.answers.specs.Numbers.{number_of}
 use Rattle.master_data.specs.Master.{frame_of}
 use Rattle.book.specs.declared.Book.{Book}
 use Rattle.book.specs.Library.{Lent, guards}
-use Rattle.writing.specs.declared.Written.{Written}
 
 -- the header, "its entries field the length of L", and its bytes
 abbrev pub header_of : Book → Header
@@ -45,12 +44,10 @@ pub record WriteResult : Type 0 where
 abbrev pub write_result : ℕ → ℕ → List ℕ → WriteResult
 write_result n k out = record { number = n; length = k; output = out }
 
-abbrev pub write_given : Written → List ℕ → WriteResult
-write_given r out = write_result (number_of r.answer) r.length out
-
--- "beside a refusal's number every other figure given is 0"
-abbrev pub refused_with : Answer → Written
-refused_with a = record { answer = a; length = 0 }
+-- of an answer. "Beside a refusal's number every other figure given is 0"
+abbrev pub write_given : Result ℕ Refusal → List ℕ → WriteResult
+write_given (Ok length) out = write_result 0 length out
+write_given (Err r) out = write_result (number_of r) 0 out
 
 -- "A refused call changes neither book nor buffer", and "beside a refusal's number every other figure given is 0"
 unfoldable pub writing : Book → Lent → List ℕ → WriteResult

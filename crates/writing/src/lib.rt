@@ -7,45 +7,30 @@ ghost use Rattle.point_record.specs.Point.{point_in_range};
 ghost use Rattle.master_data.specs.Master.{wrong_month, wrong_point};
 ghost use Rattle.audit.specs.Audit.{too_long};
 ghost use Rattle.book.specs.Library.{lent};
-ghost use Rattle.writing.specs.Writing.{written_points, file_of, file_length, write_given, refused_with, writing};
+ghost use Rattle.writing.specs.Writing.{written_points, file_of, file_length, write_given, writing};
 
-use answers::Answer;
+use answers::Refusal;
 use book::{Book, judge};
 use header_record::{Header, encode_header};
 use point_record::{Point, encode_point};
 
-// What writing a book gives: the answer, and the length of the file, 0 beside a refusal.
-#[derive(Clone, Copy)]
-pub struct Written {
-    pub answer: Answer,
-    pub length: usize,
-}
-
 // Writes the book as a month file into the first bytes of the output, and gives the file's length.
-pub fn write(book: Book, journal: &[u8], index: &[u16], output: &mut [u8]) -> Written
+pub fn write(
+    book: Book,
+    journal: &[u8],
+    index: &[u16],
+    output: &mut [u8],
+) -> Result<usize, Refusal>
     ensures { write_given result output.new ≡ writing book (lent journal.now index.now) output.old }
 {
-    let verdict = judge(book, journal, index);
-    let Answer::Accepted = verdict else {
-        return refused(verdict);
-    };
+    judge(book, journal, index)?;
     let count = book.master.count as usize;
     let length = 7 + 21 * count + 12 * book.length;
     if output.len() < length {
-        return refused(Answer::ShortOutput);
+        return Err(Refusal::ShortOutput);
     }
     write_file(book, journal, output);
-    Written {
-        answer: Answer::Accepted,
-        length,
-    }
-}
-
-// A refusal, with no length beside it.
-fn refused(answer: Answer) -> Written
-    ensures { result ≡ refused_with answer }
-{
-    Written { answer, length: 0 }
+    Ok(length)
 }
 
 // Writes header, points and entries. Each has a part of the output to itself and fills it, so that no

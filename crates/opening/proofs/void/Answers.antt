@@ -1,7 +1,0 @@
--- `opening::void` meets its contract.
-use Rattle.opening.specs.Opening.{void}
-use Rattle.opening.proofs.void.Goals as goal
-
-pub returns : goal.returns
-unfolding void
-returns c = rw (c.no_point-none.ensures, c.none-nothing.ensures)
