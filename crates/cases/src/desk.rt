@@ -1,7 +1,7 @@
 // What the commands stand on, and those that write into it directly.
 use book::Book;
 use case_lines::text;
-use opening::open;
+use opening::void;
 
 // The places of the desk's index: 180 more than nine points need, one point more than a book can have.
 const DESK_PLACES: usize = 27_000;
@@ -20,11 +20,10 @@ pub(crate) struct Desk {
 }
 
 impl Desk {
-    // Zeros, all of them lent, and the book of no file, which no opening accepts.
+    // The void book, and zeros, all of them lent.
     pub fn empty() -> Desk {
-        let opened = open(&[], &mut []);
         Desk {
-            book: opened.book,
+            book: void(),
             file: [0; 256],
             journal: [0; 60],
             index: [0; DESK_PLACES],

@@ -9,7 +9,7 @@ ghost use Rattle.forged_books.specs.Forged.{with_month, with_point, with_figures
 use book::Book;
 use point_record::Point;
 use quantity::Grains;
-use quarter::{Tariffs, Transformer, level_of};
+use quarter::{Level, Tariffs, Transformer};
 use worth::Figures;
 
 // What is forged: the month with count, length and mark; a point's record; or stored totals.
@@ -100,7 +100,7 @@ fn point_of(row: [u64; 24]) -> Point
     };
     Point {
         semi_active: row[1] == 1,
-        level: level_of(row[2]),
+        level: Level::from(row[2]),
         transformers: (row[3] % 256) as u8,
         tariffs,
         first: transformer(row[7], row[8]),
