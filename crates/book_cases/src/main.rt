@@ -8,10 +8,7 @@
 // its eight figures. A command that is not understood prints `?`.
 #![tactic(auto)]
 
-// Standard input and standard output, by their numbers.
-const STDIN_FILENO: i32 = 0;
-
-const STDOUT_FILENO: i32 = 1;
+use libc::{STDIN_FILENO, STDOUT_FILENO};
 
 fn main() {
     let mut input = io::large_buffer();

@@ -2,18 +2,12 @@
 // whether a refused call has left all as it was, and figures. Every function prints, and hands back nothing.
 #![tactic(auto)]
 
-mod books;
-
-ghost use Rattle.std.specs.Prelude.{◌≤◌};
-
+use answers::{Refusal, answered};
 use book::{Book, Reply, Totals};
-use books::{same_book, void_book};
-use posting::Posted;
+use libc::STDOUT_FILENO;
+use opening::void;
+use posting::{Posted, TurnedDown};
 use worth::Figures;
-use writing::Written;
-
-// Standard output, by its number.
-const STDOUT_FILENO: i32 = 1;
 
 // Bytes as they are.
 pub fn text(text: &[u8]) {
@@ -28,146 +22,122 @@ fn number(n: u64) {
 
 // The first bytes of a slice in hexadecimal, 12 to a group; all of them where there are fewer.
 pub fn show_bytes(bytes: &[u8], count: usize) {
-    for i in 0..bytes.len() {
-        if i < count {
-            show_byte(i, wide(bytes[i]));
+    for (place, byte) in bytes.iter().take(count).enumerate() {
+        if place % 12 == 0 {
+            text(b" ");
         }
+        io::print_hex(STDOUT_FILENO, u64::from(*byte), 2);
     }
-}
-
-// The byte at a place, after a space where a group begins.
-fn show_byte(place: usize, byte: u64) {
-    if place % 12 == 0 {
-        text(b" ");
-    }
-    io::print_hex(STDOUT_FILENO, byte, 2);
-}
-
-fn wide(byte: u8) -> u64 {
-    byte as u64
 }
 
 // An index as runs of equal places, each as their value and their count.
 pub fn show_index(index: &[u16]) {
-    let mut value = 0u16;
-    let mut count = 0usize;
-    for i in 0..index.len() {
-        let next = index[i];
-        let going_on = going_on(value, count, next);
-        value = next;
-        count = going_on + 1;
+    for run in index.chunk_by(|place, next| *place == *next) {
+        show_run(run);
     }
-    show_run(value, count);
 }
 
-// How many places a run has before the next one: where that has another value, the run is shown, and there are none.
-fn going_on(value: u16, count: usize, next: u16) -> usize
-    ensures { result ≤ count }
-{
-    if next == value {
-        return count;
-    }
-    show_run(value, count);
-    0
-}
-
-// A run, unless it has no place.
-fn show_run(value: u16, count: usize) {
-    if count == 0 {
+fn show_run(run: &[u16]) {
+    let Some(value) = run.first() else {
         return;
-    }
-    number(value as u64);
+    };
+    number(u64::from(*value));
     text(b"*");
-    io::print_decimal(STDOUT_FILENO, count as u64);
+    io::print_decimal(STDOUT_FILENO, run.len() as u64);
 }
 
-// The names of calls in the text, a byte for each letter.
-pub const OPEN: u64 = 0x6f70656e;
-
-pub const BACK: u64 = 0x6261636b;
-
-pub const CLOSE: u64 = 0x636c6f7365;
+// The calls that are printed by name.
+#[derive(Clone, Copy, Debug, PartialEq, Eq)]
+pub enum Call {
+    Open,
+    Deliver,
+    TakeBack,
+    Close,
+}
 
 // What is printed before a call.
-pub fn announce(name: u64) {
-    match name {
-        OPEN => text(b" open"),
-        BACK => text(b" take-back"),
-        CLOSE => text(b" close"),
-        _ => text(b" deliver"),
+pub fn announce(call: Call) {
+    match call {
+        Call::Open => text(b" open"),
+        Call::Deliver => text(b" deliver"),
+        Call::TakeBack => text(b" take-back"),
+        Call::Close => text(b" close"),
     }
 }
 
 // The number answered. A refused opening has to hand back the void book, any other refused call the book
 // as it was; and journal and index have to be as they were.
-pub fn show_answer(opening: bool, before: Book, reply: Reply, same_buffers: bool) {
-    let answer = reply.answer;
-    let refusal = answer.number();
-    number(refusal as u64);
-    if refusal == 0 {
+pub fn show_answer(call: Call, before: Book, reply: Reply, same_buffers: bool) {
+    number(u64::from(answered(&reply.answer)));
+    if reply.answer.is_ok() {
         return;
     }
-    if opening {
-        show_void(reply.book, same_buffers);
-    } else {
-        kept(b" kept", same_book(before, reply.book) & same_buffers);
+    match call {
+        Call::Open => show_void(reply.book, same_buffers),
+        _ => kept(b" kept", before == reply.book && same_buffers),
     }
 }
 
-// What posting a file gave: number and index; beside a number of the opening, 1 to 4 or 17, whether it has
-// handed back the void book and left journal and index as they were.
+// What posting a file gave: number and index; beside a refusal of the opening, whether it has handed back the void
+// book and left journal and index as they were.
 pub fn show_posted(posted: Posted, same_buffers: bool) {
-    let answer = posted.answer;
-    let refusal = answer.number();
     text(b" post");
-    number(refusal as u64);
-    number(posted.refused_at as u64);
-    if ((1 <= refusal) & (refusal <= 4)) | (refusal == 17) {
+    let Err(TurnedDown { refusal, entry }) = posted.answer else {
+        number(0);
+        number(0);
+        return;
+    };
+    number(u64::from(u32::from(refusal)));
+    number(entry as u64);
+    if is_of_opening(refusal) {
         show_void(posted.book, same_buffers);
     }
 }
 
+fn is_of_opening(refusal: Refusal) -> bool {
+    match refusal {
+        Refusal::TooShort
+        | Refusal::WrongHeader
+        | Refusal::WrongLength
+        | Refusal::WrongPoint
+        | Refusal::ShortIndex => true,
+        _ => false,
+    }
+}
+
 // The number and the length that writing a book gave.
-pub fn show_written(written: Written) {
-    let answer = written.answer;
+pub fn show_written(written: Result<usize, Refusal>) {
     text(b" write");
-    number(answer.number() as u64);
-    number(written.length as u64);
+    number(u64::from(answered(&written)));
+    number(written.unwrap_or(0) as u64);
 }
 
 // Whether a refused opening has handed back the void book, and journal and index are as they were.
 fn show_void(book: Book, same_buffers: bool) {
-    kept(b" void", same_book(void_book(), book) & same_buffers);
+    kept(b" void", void() == book && same_buffers);
 }
 
 fn kept(word: &[u8], as_due: bool) {
-    if as_due {
-        text(word);
-    } else {
-        text(b" changed");
-    }
+    text(if as_due { word } else { b" changed" });
 }
 
 // Number, length and figures that totals gives.
-pub fn show_totals(totals: Totals) {
-    let answer = totals.answer;
-    let points = totals.points;
+pub fn show_totals(totals: Result<Totals, Refusal>) {
     text(b" totals");
-    number(answer.number() as u64);
-    number(totals.length as u64);
-    places(points);
-}
-
-// The figures of all eight places.
-fn places(figures: [Figures; 8]) {
-    for i in 0..8 {
-        place(i as u64, figures[i]);
+    number(u64::from(answered(&totals)));
+    let Ok(Totals { points, length }) = totals else {
+        number(0);
+        return;
+    };
+    number(length as u64);
+    for (place, figures) in points.iter().enumerate() {
+        show_place(place as u64, *figures);
     }
 }
 
 // A place and its figures, unless all of them are 0.
-fn place(place: u64, figures: Figures) {
-    if figures.equals(Figures::none()) {
+fn show_place(place: u64, figures: Figures) {
+    if figures == Figures::none() {
         return;
     }
     text(b" [");

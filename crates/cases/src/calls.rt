@@ -1,102 +1,84 @@
-// The calls on a book, its journal and its index. Each prints its name and its answer.
-ghost use Rattle.std.specs.Prelude.{◌≤◌};
-
-use crate::commands::{BYTES, Command};
-use crate::fields::pack;
-use crate::places::{DESK_PLACES, copied_places, same_places};
-use book::{Book, Reply};
-use case_lines::{BACK, CLOSE, OPEN, announce, show_answer, show_totals};
+// The calls on the desk's book, its journal and its index. Each prints its name and its answer.
+use crate::desk::Desk;
+use crate::fields::{BYTES, ENTRY, pack};
+use crate::running::Numbers;
+use book::Reply;
+use case_lines::{Call, announce, show_answer, show_posted, show_totals, show_written};
 use opening::open;
+use posting::post;
+use writing::write;
 
-// Opens the file, takes back, closes, or delivers: the entry of a row, or so many of its numbers as bytes.
-pub(crate) fn ask(
-    book: Book,
-    command: Command,
-    file: &[u8; 256],
-    journal: &mut [u8; 60],
-    index: &mut [u16; DESK_PLACES],
-    sizes: &[usize; 3],
-) -> Book {
-    let name = command.name;
-    let row = command.row;
-    let mut bytes = [0u8; 24];
-    pack(&mut bytes, 0, name, row, 0);
-    let count = if name == BYTES { command.count } else { 12 };
-    let before = copied(journal);
-    let places_before = copied_places(index);
-    announce(name);
-    let reply = answered(book, name, file, journal, index, sizes, &bytes, count);
-    let same = same_bytes(&before, journal) & same_places(&places_before, index);
-    show_answer(name == OPEN, book, reply, same);
-    reply.book
-}
+impl Desk {
+    // Makes a call, a delivery with the entry of the numbers.
+    pub fn ask(&mut self, call: Call, numbers: &Numbers) {
+        let mut bytes = [0u8; 12];
+        pack(&mut bytes, 0, &ENTRY, &numbers.row);
+        self.answer(call, &bytes);
+    }
 
-// Makes the call with so many bytes and places of each slice.
-fn answered(
-    book: Book,
-    name: u64,
-    file: &[u8],
-    journal: &mut [u8],
-    index: &mut [u16],
-    sizes: &[usize; 3],
-    bytes: &[u8],
-    count: usize,
-) -> Reply {
-    let size = least(sizes[0], file.len());
-    let lent = least(sizes[1], journal.len());
-    let places = least(sizes[2], index.len());
-    let count = least(count, bytes.len());
-    call(
-        book,
-        name,
-        &file[0..size],
-        &mut journal[0..lent],
-        &mut index[0..places],
-        &bytes[0..count],
-    )
-}
+    // Delivers so many of the numbers as bytes.
+    pub fn ask_bytes(&mut self, numbers: &Numbers) {
+        let mut bytes = [0u8; 24];
+        pack(&mut bytes, 0, &BYTES, &numbers.row);
+        self.answer(Call::Deliver, first(&bytes, numbers.count));
+    }
 
-fn call(
-    book: Book,
-    name: u64,
-    file: &[u8],
-    journal: &mut [u8],
-    index: &mut [u16],
-    bytes: &[u8],
-) -> Reply {
-    match name {
-        OPEN => open(file, index),
-        BACK => book.take_back(journal, index),
-        CLOSE => book.close(journal, index),
-        _ => book.deliver(journal, index, bytes),
+    fn answer(&mut self, call: Call, bytes: &[u8]) {
+        let before = *self;
+        announce(call);
+        let reply = self.reply(call, bytes);
+        show_answer(call, before.book, reply, self.has_buffers_of(&before));
+        self.book = reply.book;
+    }
+
+    fn reply(&mut self, call: Call, bytes: &[u8]) -> Reply {
+        let journal = first_mut(&mut self.journal, self.lent);
+        let index = first_mut(&mut self.index, self.places);
+        match call {
+            Call::Open => open(first(&self.file, self.size), index),
+            Call::TakeBack => self.book.take_back(journal, index),
+            Call::Close => self.book.close(journal, index),
+            Call::Deliver => self.book.deliver(journal, index, bytes),
+        }
+    }
+
+    // Posts the file.
+    pub fn ask_post(&mut self) {
+        let before = *self;
+        let posted = post(
+            first(&self.file, self.size),
+            first_mut(&mut self.journal, self.lent),
+            first_mut(&mut self.index, self.places),
+        );
+        show_posted(posted, self.has_buffers_of(&before));
+        self.book = posted.book;
+    }
+
+    // Asks for totals.
+    pub fn ask_totals(&self) {
+        let journal = first(&self.journal, self.lent);
+        let index = first(&self.index, self.places);
+        show_totals(self.book.totals(journal, index));
+    }
+
+    // Writes the book into the first bytes of the file, so many of which are the output.
+    pub fn ask_write(&mut self, room: usize) {
+        let journal = first(&self.journal, self.lent);
+        let index = first(&self.index, self.places);
+        show_written(write(self.book, journal, index, first_mut(&mut self.file, room)));
+    }
+
+    fn has_buffers_of(&self, other: &Desk) -> bool {
+        self.journal == other.journal && self.index == other.index
     }
 }
 
-// Asks for totals with so many bytes of the journal and places of the index lent.
-pub(crate) fn ask_totals(book: Book, journal: &[u8], index: &[u16], sizes: &[usize; 3]) {
-    let lent = least(sizes[1], journal.len());
-    let places = least(sizes[2], index.len());
-    show_totals(book.totals(&journal[0..lent], &index[0..places]));
+// The first of some items; all of them where there are fewer.
+fn first<T>(items: &[T], count: usize) -> &[T] {
+    &items[..count.min(items.len())]
 }
 
-pub(crate) fn copied(journal: &[u8; 60]) -> [u8; 60] {
-    let mut copy = [0u8; 60];
-    for i in 0..60 {
-        copy[i] = journal[i];
-    }
-    copy
-}
-
-pub(crate) fn same_bytes(a: &[u8; 60], b: &[u8; 60]) -> bool {
-    let mut same = true;
-    for i in 0..60 {
-        same = same & (a[i] == b[i]);
-    }
-    same
-}
-
-pub(crate) fn least(a: usize, most: usize) -> usize
-    ensures { result ≤ most }
-{
-    if a < most { a } else { most }
+fn first_mut<T>(items: &mut [T], count: usize) -> &mut [T] {
+    let most = items.len();
+    &mut items[..count.min(most)]
 }

@@ -1,13 +1,11 @@
 // Runs the library on the cases of a text, for the programs that read one (docs/book_cases.md has the language).
 #![tactic(auto)]
 
-mod buffers;
 mod calls;
 mod commands;
+mod desk;
 mod fields;
-mod files;
-mod forge;
-mod places;
+mod running;
 mod words;
 
-pub use commands::run;
+pub use running::run;

@@ -1,55 +1,74 @@
 // The words of the text. Blanks tell them apart; from '#' to the end of a line is a comment.
-use std::num::wrapping_add_u64;
 
-// A word: its last seven letters as one number, the first of them highest; the decimal number that it is
-// if it is one; and where it ends. At the end of the text it has no letters.
+// What is left of a text.
 #[derive(Clone, Copy)]
-pub(crate) struct Word {
-    pub letters: u64,
-    pub value: u64,
-    pub end: usize,
+pub(crate) struct Words<'a> {
+    rest: &'a [u8],
 }
 
-// The first word from here on.
-pub(crate) fn word_at(text: &[u8], from: usize) -> Word {
-    let mut letters = 0u64;
-    let mut value = 0u64;
-    let mut at = skip(text, from);
-    while at < text.len() {
-        let byte = text[at];
-        if byte <= b' ' {
-            break;
-        }
-        letters = with_letter(letters, byte);
-        value = with_digit(value, byte);
-        at += 1;
+impl<'a> Words<'a> {
+    pub fn of(text: &'a [u8]) -> Words<'a> {
+        Words { rest: text }
     }
-    Word {
-        letters,
-        value,
-        end: at,
+
+    // The next word; none at the end of the text.
+    pub fn next(&mut self) -> Option<&'a [u8]> {
+        let (word, rest) = cut(from_word(self.rest));
+        if word.is_empty() {
+            return None;
+        }
+        self.rest = rest;
+        Some(word)
+    }
+
+    // The next word if it is a number: it ends in a digit, and no name does.
+    pub fn number(&mut self) -> Option<u64> {
+        let (word, rest) = cut(from_word(self.rest));
+        let last = word.last()?;
+        if !last.is_ascii_digit() {
+            return None;
+        }
+        self.rest = rest;
+        Some(number_of(word))
+    }
+
+    // What stands from the next word on, up to a colon or the end of its line.
+    pub fn label(&mut self) -> &'a [u8] {
+        let text = from_word(self.rest);
+        for (at, byte) in text.iter().enumerate() {
+            if *byte == b':' || *byte == b'\n' {
+                self.rest = &text[at + 1..];
+                return &text[..at];
+            }
+        }
+        self.rest = &[];
+        text
     }
 }
 
 // Past blanks and comments.
-pub(crate) fn skip(text: &[u8], from: usize) -> usize {
+fn from_word(text: &[u8]) -> &[u8] {
     let mut comment = false;
-    for at in from..text.len() {
-        let byte = text[at];
-        comment = (byte == b'#') | (comment & (byte != b'\n'));
-        if !comment & (b' ' < byte) {
-            return at;
+    for (at, byte) in text.iter().enumerate() {
+        comment = *byte == b'#' || comment && *byte != b'\n';
+        if !comment && b' ' < *byte {
+            return &text[at..];
         }
     }
-    text.len()
+    &[]
 }
 
-fn with_letter(letters: u64, byte: u8) -> u64 {
-    (letters % 281_474_976_710_656) * 256 + (byte as u64)
+// The word that a text begins with, and what is behind it.
+fn cut(text: &[u8]) -> (&[u8], &[u8]) {
+    let end = text.iter().position(|byte| *byte <= b' ');
+    text.split_at(end.unwrap_or(text.len()))
 }
 
-// Ten times the number and a digit more, in 64 bits.
-fn with_digit(value: u64, byte: u8) -> u64 {
-    let ten_times = wrapping_add_u64(value << 3, value << 1);
-    wrapping_add_u64(ten_times, (byte % 16) as u64)
+// A decimal number, in 64 bits.
+fn number_of(word: &[u8]) -> u64 {
+    word.iter().fold(0u64, |number, byte| {
+        number
+            .wrapping_mul(10)
+            .wrapping_add(u64::from(*byte % 16))
+    })
 }

@@ -8,6 +8,8 @@ use Rattle.worth.specs.declared.Figures.{Figures}
 use Rattle.master_data.specs.declared.MasterData.{MasterData}
 use Rattle.book.specs.declared.Book.{Book}
 use Rattle.book.specs.Library.{with_totals}
+use Rattle.forged_books.specs.declared.Forgery.{Forgery}
+use Rattle.forged_books.specs.declared.Forgery.TheVariants.{Month, Record, Totals}
 
 -- the number at a place of the row
 abbrev pub at : List ℕ → ℕ → ℕ
@@ -70,6 +72,12 @@ figures_of row =
 unfoldable pub with_figures : Book → List ℕ → Book
 with_figures b row = with_totals b (set b.totals (at row 0 % 8) (figures_of row))
 
--- the book with what is named taken from the row: 0 month, count, length and mark, 1 a point's record, else stored totals
-unfoldable pub forged : Book → ℕ → List ℕ → Book
-forged b what row = cond (eqb what 0) (with_month b row) (cond (eqb what 1) (with_point b row) (with_figures b row))
+-- what a number names: 0 the month, 1 a point's record, any other number stored totals
+abbrev pub forgery_of : ℕ → Forgery
+forgery_of number = cond (eqb number 0) Month (cond (eqb number 1) Record Totals)
+
+-- the book with what is forged taken from the row: month, count, length and mark, a point's record, or stored totals
+abbrev pub forged : Book → Forgery → List ℕ → Book
+forged b Month row = with_month b row
+forged b Record row = with_point b row
+forged b Totals row = with_figures b row

@@ -3,36 +3,49 @@
 #![tactic(auto)]
 
 ghost use Rattle.std.specs.Prelude.{◌≡◌};
-ghost use Rattle.forged_books.specs.Forged.{place_of, point_of, figures_of};
+ghost use Rattle.forged_books.specs.Forged.{forgery_of, place_of, point_of, figures_of};
 ghost use Rattle.forged_books.specs.Forged.{with_month, with_point, with_figures, forged};
 
 use book::Book;
 use point_record::Point;
 use quantity::Grains;
-use quarter::{Tariffs, Transformer, level_of};
+use quarter::{Level, Tariffs, Transformer};
 use worth::Figures;
 
 // What is forged: the month with count, length and mark; a point's record; or stored totals.
-pub const MONTH: u8 = 0;
+#[derive(Clone, Copy, Debug, PartialEq, Eq)]
+pub enum Forgery {
+    Month,
+    Record,
+    Totals,
+}
 
-pub const POINT: u8 = 1;
+// As a number: 0 the month, 1 a point's record, any other number stored totals.
+impl From<u8> for Forgery {
+    ghost from_gives = { λ number forgery. forgery ≡ forgery_of number };
 
-pub const TOTALS: u8 = 2;
+    fn from(number: u8) -> Forgery {
+        match number {
+            0 => Forgery::Month,
+            1 => Forgery::Record,
+            _ => Forgery::Totals,
+        }
+    }
+}
 
-// The book with what is named taken from the row; any other name than the first two is that of stored totals.
-pub fn forged(book: Book, what: u8, row: [u64; 24]) -> Book
-    ensures { result ≡ forged book what row }
+// The book with what is forged taken from the row.
+pub fn forged(book: Book, forgery: Forgery, row: [u64; 24]) -> Book
+    ensures { result ≡ forged book forgery row }
 {
-    if what == MONTH {
-        return with_month(book, row);
+    match forgery {
+        Forgery::Month => with_month(book, row),
+        Forgery::Record => with_point(book, row),
+        Forgery::Totals => with_figures(book, row),
     }
-    if what == POINT {
-        return with_point(book, row);
-    }
-    with_figures(book, row)
 }
 
 // Another month, count of points, length of L, and whether the book is closed.
+#[tactic(auto, unfolding(crate::specs::Forged::with_month))]
 fn with_month(mut book: Book, row: [u64; 24]) -> Book
     ensures { result ≡ with_month book row }
 {
@@ -47,6 +60,7 @@ fn with_month(mut book: Book, row: [u64; 24]) -> Book
 }
 
 // Another record of a point, also of one past the count. The row's first number is its place.
+#[tactic(auto, unfolding(crate::specs::Forged::with_point))]
 fn with_point(mut book: Book, row: [u64; 24]) -> Book
     ensures { result ≡ with_point book row }
 {
@@ -61,6 +75,7 @@ fn with_point(mut book: Book, row: [u64; 24]) -> Book
 }
 
 // Other stored totals of a place, the row's first number.
+#[tactic(auto, unfolding(crate::specs::Forged::with_figures))]
 fn with_figures(mut book: Book, row: [u64; 24]) -> Book
     ensures { result ≡ with_figures book row }
 {
@@ -74,6 +89,7 @@ fn with_figures(mut book: Book, row: [u64; 24]) -> Book
 
 // The point of a row, behind its place: role (1 semi-active), level (1 is 380 kV), transformers, payment
 // tariff, billing tariff, penalty, and uk and Sn of the four places.
+#[tactic(auto, unfolding(crate::specs::Forged::point_of))]
 fn point_of(row: [u64; 24]) -> Point
     ensures { result ≡ point_of row }
 {
@@ -84,7 +100,7 @@ fn point_of(row: [u64; 24]) -> Point
     };
     Point {
         semi_active: row[1] == 1,
-        level: level_of(row[2]),
+        level: Level::from(row[2]),
         transformers: (row[3] % 256) as u8,
         tariffs,
         first: transformer(row[7], row[8]),
@@ -104,6 +120,7 @@ fn transformer(uk: u64, sn: u64) -> Transformer
 }
 
 // The figures of a row, behind its place. An amount is made of as many grains at a tariff of 1.
+#[tactic(auto, unfolding(crate::specs::Forged::figures_of))]
 fn figures_of(row: [u64; 24]) -> Figures
     ensures { result ≡ figures_of row }
 {

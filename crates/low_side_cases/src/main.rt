@@ -4,14 +4,12 @@
 #![tactic(auto)]
 
 mod numbers;
+mod words;
 
-use numbers::{Number, row_at, signed};
-use transformer::{DataSheet, LowSide, convert};
-
-// Standard input and standard output, by their numbers.
-const STDIN_FILENO: i32 = 0;
-
-const STDOUT_FILENO: i32 = 1;
+use libc::{STDIN_FILENO, STDOUT_FILENO};
+use numbers::{signed, size};
+use transformer::{DataSheet, HighSide, LowSide, convert};
+use words::Words;
 
 fn main() {
     let mut input = io::large_buffer();
@@ -24,39 +22,47 @@ fn main() {
 
 // Every case of the text; past 65,536 of them it stops.
 fn run(text: &[u8]) {
-    let mut at = 0usize;
-    for _ in 0..65_536usize {
-        let row = row_at(text, at);
-        if !row.found {
+    let mut words = Words::of(text);
+    for _ in 0..65_536 {
+        let Some((low, sheet)) = case_of(&mut words) else {
             break;
-        }
-        let numbers = row.numbers;
-        show(numbers);
-        at = row.end;
+        };
+        show(low, sheet);
     }
 }
 
-// One case.
-fn show(row: [Number; 6]) {
+// The next case; none where fewer than six words are left.
+fn case_of(words: &mut Words<'_>) -> Option<(LowSide, DataSheet)> {
     let low = LowSide {
-        active: signed(row[0]),
-        reactive: signed(row[1]),
+        active: signed(words.next()?),
+        reactive: signed(words.next()?),
     };
     let sheet = DataSheet {
-        sn: row[2].size,
-        uk: row[3].size,
-        i0: row[4].size,
-        copper: row[5].size,
+        sn: size(words.next()?),
+        uk: size(words.next()?),
+        i0: size(words.next()?),
+        copper: size(words.next()?),
     };
-    let high = convert(low, sheet);
-    let answer = high.answer;
-    figure(answer.number(), b" ");
-    figure(high.take, b" ");
-    figure(high.supply, b"\n");
+    Some((low, sheet))
+}
+
+// One case.
+fn show(low: LowSide, sheet: DataSheet) {
+    match convert(low, sheet) {
+        Ok(HighSide { take, supply }) => line(0, take, supply),
+        Err(refusal) => line(u32::from(refusal), 0, 0),
+    }
+}
+
+// A line of three numbers.
+fn line(answer: u32, take: u32, supply: u32) {
+    figure(answer, b" ");
+    figure(take, b" ");
+    figure(supply, b"\n");
 }
 
 // A number in decimal, and what stands behind it.
 fn figure(n: u32, behind: &[u8]) {
-    io::print_decimal(STDOUT_FILENO, n as u64);
+    io::print_decimal(STDOUT_FILENO, u64::from(n));
     io::write_all(STDOUT_FILENO, behind);
 }

@@ -9,13 +9,11 @@
 ghost use Rattle.std.specs.Prelude.{◌+◌, ◌^◌, ◌≤◌, ◌<◌};
 
 use bits::put;
-use entry_record::EntryAnswer;
-use header_record::HeaderAnswer;
-use point_record::PointAnswer;
+use entry_record::{decode_entry, encode_entry};
+use header_record::{decode_header, encode_header};
+use libc::STDOUT_FILENO;
+use point_record::{decode_point, encode_point};
 use quarter::{Level, Transformer};
-
-// Standard output, by its number.
-const STDOUT_FILENO: i32 = 1;
 
 const HEADER: [u8; 7] = *b"BE\x7e\x82\x20\x00\x04";
 
@@ -63,14 +61,11 @@ fn samples() {
 
 // A byte less and a byte more than each record has.
 fn lengths() {
-    let active = ACTIVE;
-    let first = FIRST;
-    let longer = [0u8; 22];
     show_header(b"BE\x7e\x82\x20\x00");
     show_header(b"BE\x7e\x82\x20\x00\x04\x00");
-    show_point(&active[..20]);
-    show_point(&longer);
-    show_entry(&first[..11]);
+    show_point(&ACTIVE[..20]);
+    show_point(&[0; 22]);
+    show_entry(&FIRST[..11]);
     show_entry(b"\x00\x00\x18\x00\x00\x00\x3e\x82\xb1\x12\xaf\x80\x00");
 }
 
@@ -181,12 +176,7 @@ fn header_case(at: usize, width: usize, value: u64)
 {
     let mut bytes = HEADER;
     put(&mut bytes, at, width, value);
-    let answer = header_record::decode_header(&bytes);
-    let HeaderAnswer::Read(_) = answer else {
-        bound(at, width, value, b" refused\n");
-        return;
-    };
-    bound(at, width, value, b" read\n");
+    bound(at, width, value, decode_header(&bytes).is_some());
 }
 
 // Decodes a point with another value in one of its fields.
@@ -196,12 +186,7 @@ fn point_case(mut bytes: [u8; 21], at: usize, width: usize, value: u64)
     requires value_bound { value < 2 ^ width }
 {
     put(&mut bytes, at, width, value);
-    let answer = point_record::decode_point(&bytes);
-    let PointAnswer::Read(_) = answer else {
-        bound(at, width, value, b" refused\n");
-        return;
-    };
-    bound(at, width, value, b" read\n");
+    bound(at, width, value, decode_point(&bytes).is_some());
 }
 
 // Decodes the first entry with another value in one of its fields.
@@ -212,54 +197,46 @@ fn entry_case(at: usize, width: usize, value: u64)
 {
     let mut bytes = FIRST;
     put(&mut bytes, at, width, value);
-    let answer = entry_record::decode_entry(&bytes);
-    let EntryAnswer::Read(_) = answer else {
-        bound(at, width, value, b" refused\n");
-        return;
-    };
-    bound(at, width, value, b" read\n");
+    bound(at, width, value, decode_entry(&bytes).is_some());
 }
 
 // Writes a bound's line.
-fn bound(at: usize, width: usize, value: u64, answer: &[u8]) {
+fn bound(at: usize, width: usize, value: u64, is_read: bool) {
     io::print_decimal(STDOUT_FILENO, at as u64);
     number(width as u64);
     number(value);
-    io::write_all(STDOUT_FILENO, answer);
+    text(if is_read { b" read\n" } else { b" refused\n" });
 }
 
 // Writes a header's fields, and the bytes that encode them.
 fn show_header(bytes: &[u8]) {
-    let answer = header_record::decode_header(bytes);
-    let HeaderAnswer::Read(header) = answer else {
+    let Some(header) = decode_header(bytes) else {
         text(b"header refused\n");
         return;
     };
     text(b"header");
-    number(header.year as u64);
-    number(header.month as u64);
-    number(header.points as u64);
-    number(header.entries as u64);
+    number(u64::from(header.year));
+    number(u64::from(header.month));
+    number(u64::from(header.points));
+    number(u64::from(header.entries));
     let mut again = [0u8; 7];
-    header_record::encode_header(header, &mut again);
+    encode_header(header, &mut again);
     hex(&again);
 }
 
 // Writes a point's fields, its band, and the bytes that encode them.
 fn show_point(bytes: &[u8]) {
-    let answer = point_record::decode_point(bytes);
-    let PointAnswer::Read(point) = answer else {
+    let Some(point) = decode_point(bytes) else {
         text(b"point refused\n");
         return;
     };
-    let level = point.level;
     text(b"point");
-    number(point.semi_active as u64);
-    show_level(level);
-    number(point.transformers as u64);
-    number(point.tariffs.payment as u64);
-    number(point.tariffs.billing as u64);
-    number(point.tariffs.penalty as u64);
+    number(u64::from(point.semi_active));
+    show_level(point.level);
+    number(u64::from(point.transformers));
+    number(u64::from(point.tariffs.payment));
+    number(u64::from(point.tariffs.billing));
+    number(u64::from(point.tariffs.penalty));
     place(point.first);
     place(point.second);
     place(point.third);
@@ -267,36 +244,35 @@ fn show_point(bytes: &[u8]) {
     text(b" band");
     number(point_record::band(point).count());
     let mut again = [0u8; 21];
-    point_record::encode_point(point, &mut again);
+    encode_point(point, &mut again);
     hex(&again);
 }
 
 // Writes an entry's fields, and the bytes that encode them.
 fn show_entry(bytes: &[u8]) {
-    let answer = entry_record::decode_entry(bytes);
-    let EntryAnswer::Read(entry) = answer else {
+    let Some(entry) = decode_entry(bytes) else {
         text(b"entry refused\n");
         return;
     };
     let metered = entry.metered;
     text(b"entry");
-    number(entry.point as u64);
-    number(entry.quarter as u64);
-    number(entry.version as u64);
-    number(metered.lamp as u64);
-    number(metered.take as u64);
-    number(metered.supply as u64);
-    number(metered.actual.count() as u64);
-    number(metered.set.count() as u64);
+    number(u64::from(entry.point));
+    number(u64::from(entry.quarter));
+    number(u64::from(entry.version));
+    number(u64::from(metered.lamp));
+    number(u64::from(metered.take));
+    number(u64::from(metered.supply));
+    number(u64::from(metered.actual.count()));
+    number(u64::from(metered.set.count()));
     let mut again = [0u8; 12];
-    entry_record::encode_entry(entry, &mut again);
+    encode_entry(entry, &mut again);
     hex(&again);
 }
 
 // Writes a month and its quarters.
 fn month(year: u16, month: u8) {
-    io::print_decimal(STDOUT_FILENO, year as u64);
-    number(month as u64);
+    io::print_decimal(STDOUT_FILENO, u64::from(year));
+    number(u64::from(month));
     number(calendar::quarters_of_month(year, month) as u64);
     text(b"\n");
 }
@@ -311,8 +287,8 @@ fn show_level(level: Level) {
 
 // Writes uk and Sn.
 fn place(place: Transformer) {
-    number(place.uk as u64);
-    number(place.sn as u64);
+    number(u64::from(place.uk));
+    number(u64::from(place.sn));
 }
 
 // Writes bytes as they are.
@@ -329,13 +305,8 @@ fn number(n: u64) {
 // Writes bytes in hexadecimal after a space, and the line's end.
 fn hex(bytes: &[u8]) {
     text(b" ");
-    for i in 0..bytes.len() {
-        byte(bytes[i]);
+    for byte in bytes {
+        io::print_hex(STDOUT_FILENO, u64::from(*byte), 2);
     }
     text(b"\n");
-}
-
-// Writes a byte in two hexadecimal digits.
-fn byte(byte: u8) {
-    io::print_hex(STDOUT_FILENO, byte as u64, 2);
 }

@@ -3,8 +3,7 @@
 // are due, in the file `stdout`, are those of the reader of the same text in tests/oracle.
 #![tactic(auto)]
 
-// Standard input, by its number.
-const STDIN_FILENO: i32 = 0;
+use libc::STDIN_FILENO;
 
 fn main() {
     let mut input = io::large_buffer();

@@ -1,9 +1,7 @@
 // The C call. A line has the number answered and then the 48 bytes of a buffer, each 255 before
 // the call, of which a front part was lent.
 use crate::print::{byte, end_of_line};
-
-// Standard output, by its number.
-const STDOUT_FILENO: i32 = 1;
+use libc::STDOUT_FILENO;
 
 // Role, level, band, lamp, take, supply, actual and set voltage, and the length of the lent slice.
 const CALLS: [[u32; 9]; 25] = [
@@ -40,35 +38,28 @@ const CALLS: [[u32; 9]; 25] = [
 
 // Every call of the table.
 pub fn show_all() {
-    for i in 0..25 {
-        show(CALLS[i]);
+    for call in CALLS {
+        show(call);
     }
 }
 
-// One row of the table, on a buffer of its own.
-fn show(c: [u32; 9]) {
+// One row of the table: the call on a front part of a buffer of its own, as long as the row says.
+fn show(call: [u32; 9]) {
+    let [role, level, band, lamp, take, supply, actual, set, length] = call;
     let mut buffer = [255u8; 48];
-    show_in(c, &mut buffer);
-}
-
-// The call on a front part of the buffer, as long as the case says.
-fn show_in(c: [u32; 9], buffer: &mut [u8]) {
-    let n = c[8] as usize;
-    if buffer.len() < n {
+    let Some(lent) = buffer.get_mut(..length as usize) else {
         return;
-    }
-    let lent = &mut buffer[..n];
-    let answer = reactive::reactive_classify(c[0], c[1], c[2], c[3], c[4], c[5], c[6], c[7], lent);
-    io::print_decimal(STDOUT_FILENO, answer as u64);
-    show_bytes(buffer);
+    };
+    let answer =
+        reactive::reactive_classify(role, level, band, lamp, take, supply, actual, set, lent);
+    io::print_decimal(STDOUT_FILENO, u64::from(answer));
+    show_bytes(&buffer);
 }
 
 // All bytes of the buffer.
 fn show_bytes(bytes: &[u8]) {
-    let mut i = 0;
-    while i < bytes.len() {
-        byte(bytes[i], i);
-        i += 1;
+    for (place, value) in bytes.iter().enumerate() {
+        byte(*value, place);
     }
     end_of_line();
 }

@@ -1,7 +1,6 @@
 // Numbers on standard output.
 
-// Standard output, by its number.
-const STDOUT_FILENO: i32 = 1;
+use libc::STDOUT_FILENO;
 
 // A number in decimal and a space.
 pub fn figure(n: u64) {
@@ -20,7 +19,7 @@ pub fn byte(b: u8, place: usize) {
     if place % 8 == 0 {
         io::write_all(STDOUT_FILENO, b" ");
     }
-    io::print_hex(STDOUT_FILENO, b as u64, 2);
+    io::print_hex(STDOUT_FILENO, u64::from(b), 2);
 }
 
 // The end of a line.

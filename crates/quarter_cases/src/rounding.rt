@@ -13,8 +13,8 @@ const AMOUNTS: [u64; 6] = [
 
 // Every amount of the table.
 pub fn show_all() {
-    for i in 0..6 {
-        let amount = Grains::of(AMOUNTS[i]).times(1);
+    for grains in AMOUNTS {
+        let amount = Grains::of(grains).times(1);
         figure(amount.count());
         last_figure(amount.rappen());
     }

@@ -47,21 +47,22 @@ const QUARTER_HOURS: [[u32; 8]; 31] = [
 
 // Every quarter-hour of the table.
 pub fn show_all() {
-    for i in 0..31 {
-        show(QUARTER_HOURS[i]);
+    for quarter_hour in QUARTER_HOURS {
+        show(quarter_hour);
     }
 }
 
 // One row of the table.
-fn show(q: [u32; 8]) {
+fn show(quarter_hour: [u32; 8]) {
+    let [role, level, band, lamp, take, supply, actual, set] = quarter_hour;
     let metered = Metered {
-        lamp: q[3] == 1,
-        take: q[4],
-        supply: q[5],
-        actual: Voltage::of(q[6]),
-        set: Voltage::of(q[7]),
+        lamp: lamp == 1,
+        take,
+        supply,
+        actual: Voltage::of(actual),
+        set: Voltage::of(set),
     };
-    show_worth(role_of(q[0], q[2]), quarter::level_of(q[1] as u64), metered);
+    show_worth(role_of(role, band), Level::from(u64::from(level)), metered);
 }
 
 // The shares of a quarter-hour and what they are worth.
@@ -73,24 +74,17 @@ fn show_worth(role: Role, level: Level, metered: Metered) {
 
 // The five shares, in document 01's order.
 fn show_shares(shares: Shares) {
-    let paid = shares.paid;
-    let free = shares.free;
-    let billed = shares.billed;
-    let allowance = shares.allowance;
-    let disconnected = shares.disconnected;
-    figure(paid.count());
-    figure(free.count());
-    figure(billed.count());
-    figure(allowance.count());
-    figure(disconnected.count());
+    figure(shares.paid.count());
+    figure(shares.free.count());
+    figure(shares.billed.count());
+    figure(shares.allowance.count());
+    figure(shares.disconnected.count());
 }
 
 // Credit and debit, unrounded.
 fn show_amounts(amounts: Amounts) {
-    let credit = amounts.credit;
-    let debit = amounts.debit;
-    figure(credit.count());
-    last_figure(debit.count());
+    figure(amounts.credit.count());
+    last_figure(amounts.debit.count());
 }
 
 // The role that a number stands for.
@@ -98,7 +92,7 @@ fn role_of(role: u32, band: u32) -> Role {
     if role == 0 {
         return Role::Active;
     }
-    Role::SemiActive(Grains::of(band as u64))
+    Role::SemiActive(Grains::of(u64::from(band)))
 }
 
 // The tariffs of 01's example: 300 and 1000, and a penalty of 500 for the active role.

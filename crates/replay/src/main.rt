@@ -9,15 +9,26 @@ mod page;
 
 ghost use Rattle.std.specs.Prelude.{◌<◌, ◌^◌};
 
+use answers::Refusal;
 use call_list::run_calls;
+use libc::{STDIN_FILENO, STDOUT_FILENO};
 use page::{print_answers, say};
+
+// What standard input holds.
+#[derive(Clone, Copy)]
+struct Input<'a> {
+    file: &'a [u8],
+    journal_bytes: usize,
+    index_places: usize,
+    script: &'a [u8],
+}
 
 fn main() {
     let mut input = buffers::input();
     let mut journal = buffers::journal();
     let mut index = buffers::index();
     let mut answers = buffers::answers();
-    let count = io::read_full(0, &mut input);
+    let count = io::read_full(STDIN_FILENO, &mut input);
     if count > 1_600_000 {
         say(b"input too long\n");
         return;
@@ -25,82 +36,60 @@ fn main() {
     replay(&input[..count], &mut journal, &mut index, &mut answers);
 }
 
-// Finds the file, the two lengths and the calls, one after the other.
+// Lends so many bytes of the journal and places of the index as the input says.
 fn replay(input: &[u8], journal: &mut [u8], index: &mut [u16], answers: &mut [u8]) {
-    if input.len() < 4 {
+    let Some(input) = Input::of(input) else {
         say(b"input too short\n");
         return;
-    }
-    let file = 4;
-    let file_end = file + length_in(input);
-    let journal_end = file_end + 4;
-    let calls = journal_end + 4;
-    if input.len() < calls {
-        say(b"input too short\n");
-        return;
-    }
-    lend(
-        &input[file..file_end],
-        &input[calls..],
-        length_in(&input[file_end..journal_end]),
-        journal,
-        length_in(&input[journal_end..calls]),
-        index,
-        answers,
-    );
-}
-
-// Lends so many bytes of the journal and places of the index.
-fn lend(
-    file: &[u8],
-    script: &[u8],
-    length: usize,
-    journal: &mut [u8],
-    places: usize,
-    index: &mut [u16],
-    answers: &mut [u8],
-) {
-    if journal.len() < length {
+    };
+    let Some(journal) = journal.get_mut(..input.journal_bytes) else {
         say(b"journal too long\n");
         return;
-    }
-    if index.len() < places {
+    };
+    let Some(index) = index.get_mut(..input.index_places) else {
         say(b"index too long\n");
         return;
-    }
-    let first = 0;
-    run(
-        file,
-        script,
-        &mut journal[first..length],
-        &mut index[first..places],
-        answers,
-    );
+    };
+    run(input.file, input.script, journal, index, answers);
 }
 
-// The number in the first four bytes.
-fn length_in(bytes: &[u8]) -> usize
-    ensures { result < 2 ^ 32 }
-{
-    if bytes.len() < 4 {
-        return 0;
+impl Input<'_> {
+    // Finds the file, the two lengths and the calls, one after the other; none where the input ends before them.
+    fn of(bytes: &[u8]) -> Option<Input<'_>> {
+        let (length, behind) = length_in(bytes)?;
+        let (file, behind) = behind.split_at_checked(length)?;
+        let (journal_bytes, behind) = length_in(behind)?;
+        let (index_places, script) = length_in(behind)?;
+        Some(Input {
+            file,
+            journal_bytes,
+            index_places,
+            script,
+        })
     }
-    bits::get(bytes, 0, 32) as usize
+}
+
+// The number in the first four bytes, and what is behind them.
+fn length_in(bytes: &[u8]) -> Option<(usize, &[u8])> {
+    let (number, behind) = bytes.split_first_chunk()?;
+    Some((u32::from_be_bytes(*number) as usize, behind))
 }
 
 // Makes the calls and prints the answers.
 fn run(file: &[u8], script: &[u8], journal: &mut [u8], index: &mut [u16], answers: &mut [u8]) {
-    let ran = run_calls(file, script, journal, index, answers);
-    let answer = ran.answer;
-    let number = answer.number();
-    if number == 13 {
-        say(b"answers too long\n");
-        return;
+    match run_calls(file, script, journal, index, answers) {
+        Ok(_) => {
+            print_opening(0);
+            print_answers(script, answers);
+        }
+        Err(Refusal::ShortOutput) => say(b"answers too long\n"),
+        Err(refusal) => print_opening(u32::from(refusal)),
     }
+}
+
+// Prints the number that opening the file answered.
+fn print_opening(number: u32) {
     say(b"open ");
-    io::print_decimal(1, number as u64);
+    io::print_decimal(STDOUT_FILENO, u64::from(number));
     say(b"\n");
-    if number == 0 {
-        print_answers(script, answers);
-    }
 }

@@ -1,82 +1,88 @@
 // The lines that are printed for the calls of a script.
 use call_script::{room_at, size_at};
+use libc::STDOUT_FILENO;
+
+// A call of a script.
+enum Call {
+    Deliver,
+    TakeBack,
+    Close,
+    Totals,
+}
+
+impl Call {
+    // The call that a script's byte begins.
+    fn of(kind: u8) -> Option<Call> {
+        match kind {
+            0 => Some(Call::Deliver),
+            1 => Some(Call::TakeBack),
+            2 => Some(Call::Close),
+            3 => Some(Call::Totals),
+            _ => None,
+        }
+    }
+}
 
 // Prints the answer to each call of the script. The answers stand one after the other.
 pub(crate) fn print_answers(script: &[u8], answers: &[u8]) {
     let mut at = 0usize;
-    let mut from = 0usize;
-    for _ in 0..script.len() {
+    let mut left = answers;
+    for _ in script {
         let size = size_at(script, at);
         if size == 0 {
             return;
         }
-        let kind = script[at];
-        let end = from + room_at(script, at);
-        if answers.len() < end {
+        let Some((answer, behind)) = left.split_at_checked(room_at(script, at)) else {
             return;
+        };
+        if let Some(call) = Call::of(script[at]) {
+            print_answer(call, answer);
         }
-        print_answer(kind, &answers[from..end]);
-        from = end;
+        left = behind;
         at += size;
     }
 }
 
 // Prints a line, and for totals eight more.
-fn print_answer(kind: u8, answer: &[u8]) {
-    if kind == 3 {
-        print_totals(answer);
-        return;
+fn print_answer(call: Call, answer: &[u8]) {
+    match call {
+        Call::Deliver => print_line(b"deliver", answer),
+        Call::TakeBack => print_line(b"take_back", answer),
+        Call::Close => print_line(b"close", answer),
+        Call::Totals => print_totals(answer),
     }
-    if kind == 0 {
-        say(b"deliver");
-    }
-    if kind == 1 {
-        say(b"take_back");
-    }
-    if kind == 2 {
-        say(b"close");
-    }
-    print_numbers(answer);
 }
 
 // Prints number and length, and a line for each place.
 fn print_totals(answer: &[u8]) {
-    if answer.len() < 528 {
+    let Some((first, figures)) = answer.split_at_checked(16) else {
         return;
-    }
-    say(b"totals");
-    let first = 16;
-    print_numbers(&answer[..first]);
-    for place in 0..8 {
-        let start = first + 64 * place;
-        let end = start + 64;
-        io::print_decimal(1, place as u64);
-        print_numbers(&answer[start..end]);
+    };
+    print_line(b"totals", first);
+    for (place, bytes) in figures.chunks_exact(64).enumerate() {
+        io::print_decimal(STDOUT_FILENO, place as u64);
+        print_line(b"", bytes);
     }
 }
 
-// Prints numbers of eight bytes, a space before each, and ends the line.
-fn print_numbers(bytes: &[u8]) {
-    for i in 0..bytes.len() / 8 {
-        let start = 8 * i;
-        let end = start + 8;
+// Prints a word and numbers of eight bytes, a space before each, and ends the line.
+fn print_line(word: &[u8], bytes: &[u8]) {
+    say(word);
+    for number in bytes.chunks_exact(8) {
         say(b" ");
-        io::print_decimal(1, number_in(&bytes[start..end]));
+        io::print_decimal(STDOUT_FILENO, number_in(number));
     }
     say(b"\n");
 }
 
 // The number in the first eight bytes, most significant first.
 fn number_in(bytes: &[u8]) -> u64 {
-    if bytes.len() < 8 {
-        return 0;
-    }
-    let high = bits::get(bytes, 0, 32);
-    let low = bits::get(bytes, 32, 32);
-    (high << 32) | low
+    bytes
+        .first_chunk()
+        .map_or(0, |bytes| u64::from_be_bytes(*bytes))
 }
 
 // Prints a text.
 pub(crate) fn say(text: &[u8]) {
-    io::write_all(1, text);
+    io::write_all(STDOUT_FILENO, text);
 }

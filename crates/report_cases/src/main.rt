@@ -9,10 +9,8 @@
 mod files;
 
 use files::{EMPTY_MONTH, EXAMPLE, HALF_RAPPEN, LARGEST_HEAD, TWO_HALVES};
+use libc::STDOUT_FILENO;
 use report::printed;
-
-// Standard output, by its number.
-const STDOUT_FILENO: i32 = 1;
 
 fn main() {
     show(b"example", &EXAMPLE);
@@ -30,22 +28,16 @@ fn main() {
 // The statement of a file.
 fn show(label: &[u8], file: &[u8]) {
     let page = printed(file);
-    let bytes = page.bytes;
-    let length = page.length;
     io::write_all(STDOUT_FILENO, label);
     io::write_all(STDOUT_FILENO, b"\n");
-    io::write_all(STDOUT_FILENO, &bytes[..length]);
+    io::write_all(STDOUT_FILENO, &page.bytes[..page.length]);
 }
 
 // The first bytes of the example.
 fn show_beginnings() {
-    let file = EXAMPLE;
-    show(b"first bytes", &file[..0]);
-    show(b"first bytes", &file[..6]);
-    show(b"first bytes", &file[..7]);
-    show(b"first bytes", &file[..28]);
-    show(b"first bytes", &file[..49]);
-    show(b"first bytes", &file[..96]);
+    for count in [0, 6, 7, 28, 49, 96] {
+        show_first(b"first bytes", &EXAMPLE, count);
+    }
 }
 
 // The example with two bytes changed.
@@ -56,15 +48,17 @@ fn show_with(label: &[u8], at: usize, first: u8, second: u8) {
 
 // A file with two bytes changed.
 fn show_changed(label: &[u8], file: &mut [u8], at: usize, first: u8, second: u8) {
-    put(file, at % 97, first);
-    put(file, at % 97 + 1, second);
+    put(file, at, &[first, second]);
     show(label, file);
 }
 
-// Stores a byte, where there is room for it.
-fn put(file: &mut [u8], at: usize, byte: u8) {
-    if at < file.len() {
-        file[at] = byte;
+// Stores bytes from an index on, where there is room for them.
+fn put(file: &mut [u8], at: usize, bytes: &[u8]) {
+    let Some(places) = file.get_mut(at..) else {
+        return;
+    };
+    for (place, byte) in places.iter_mut().zip(bytes) {
+        *place = *byte;
     }
 }
 
@@ -133,55 +127,32 @@ fn show_clock_change(label: &[u8], fourth: u8, second: u8) {
 // The largest file, one byte more, and one entry more.
 fn show_largest() {
     let mut file = [0u8; 65_548];
-    write_largest(&mut file);
-}
-
-// Fills the file and shows it.
-fn write_largest(file: &mut [u8]) {
-    put_head(file);
-    put_entries(file);
-    show_first(b"65,536 bytes", file, 65_536);
-    show_first(b"65,537 bytes", file, 65_537);
+    put(&mut file, 0, &LARGEST_HEAD);
+    for i in 0..5_460 {
+        put(&mut file, 28 + 12 * i, &entry(i));
+    }
+    show_first(b"65,536 bytes", &file, 65_536);
+    show_first(b"65,537 bytes", &file, 65_537);
     // The header counts the last entry too.
-    put(file, 6, 0x54);
-    show(b"5,460 entries", file);
+    put(&mut file, 6, &[0x54]);
+    show(b"5,460 entries", &file);
 }
 
 // The first bytes of a file.
 fn show_first(label: &[u8], file: &[u8], count: usize) {
-    if count <= file.len() {
-        show(label, &file[..count]);
-    }
-}
-
-// Header and point.
-fn put_head(file: &mut [u8]) {
-    let head = LARGEST_HEAD;
-    for i in 0..28 {
-        put(file, i, head[i]);
-    }
-}
-
-// All entries, and one more.
-fn put_entries(file: &mut [u8]) {
-    for i in 0..5_460 {
-        put_entry(file, i);
+    if let Some(first) = file.get(..count) {
+        show(label, first);
     }
 }
 
 // Entry i of the largest file: quarter after quarter, and then again as version 2, with 1,000 kvarh
 // supplied at U 22050, S 22000 and lamp 1.
-fn put_entry(file: &mut [u8], i: usize) {
+fn entry(i: usize) -> [u8; 12] {
     let quarter = i % 2_976;
-    let version_and_lamp = if i < 2_976 { 0x18u8 } else { 0x28u8 };
-    let at = 28 + 12 * (i % 5_460);
-    put(file, at, (quarter / 128) as u8);
-    put(file, at + 1, (2 * (quarter % 128)) as u8);
-    put(file, at + 2, version_and_lamp);
-    put(file, at + 6, 0x1f);
-    put(file, at + 7, 0x42);
-    put(file, at + 8, 0xb1);
-    put(file, at + 9, 0x12);
-    put(file, at + 10, 0xaf);
-    put(file, at + 11, 0x80);
+    let version_and_lamp = if i < 2_976 { 0x18 } else { 0x28 };
+    let first = (quarter / 128) as u8;
+    let second = (2 * (quarter % 128)) as u8;
+    [
+        first, second, version_and_lamp, 0, 0, 0, 0x1f, 0x42, 0xb1, 0x12, 0xaf, 0x80,
+    ]
 }

@@ -1,14 +1,13 @@
 // Prints the statement of the month file on standard input.
 #![tactic(auto)]
 
+use libc::{STDIN_FILENO, STDOUT_FILENO};
 use report::printed;
 
 fn main() {
     // One byte more than a month file may have: that many show that it is too long.
     let mut input = [0u8; 65_537];
-    let count = io::read_full(0, &mut input);
+    let count = io::read_full(STDIN_FILENO, &mut input);
     let page = printed(&input[..count]);
-    let bytes = page.bytes;
-    let length = page.length;
-    io::write_all(1, &bytes[..length]);
+    io::write_all(STDOUT_FILENO, &page.bytes[..page.length]);
 }

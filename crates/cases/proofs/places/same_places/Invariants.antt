@@ -1,5 +1,0 @@
--- `cases::places::same_places` is safe and ends.
-use Rattle.cases.proofs.places.same_places.Given as goal
-
-abbrev pub invariant-loop-i : goal.invariant-loop-i
-invariant-loop-i l = Unit

@@ -1,6 +1,0 @@
--- `replay::buffers::input` has its length.
-use Rattle.replay.proofs.Zeros.{zeros}
-use Rattle.replay.proofs.buffers.input.Goals as goal
-
-pub returns : goal.returns
-returns c = zeros 1600001

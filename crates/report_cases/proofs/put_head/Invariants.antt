@@ -1,8 +1,0 @@
--- `report_cases::put_head` is safe.
-use Prim.Native.Nat.{◌≤◌}
-use mathlib.Core.Path.{◌≡◌}
-use lib.ListN.{length}
-use Rattle.report_cases.proofs.put_head.Given as goal
-
-abbrev pub invariant-loop-i : goal.invariant-loop-i
-invariant-loop-i l = (l.i ≤ 28) × (length l.file ≡ length l.initial.file)
