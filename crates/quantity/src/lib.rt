@@ -12,9 +12,9 @@ mod energy;
 mod money;
 
 // Energy. A grain, a term of document 01, is 1/1600 kvarh.
-#[derive(Clone, Copy)]
+#[derive(Clone, Copy, Debug, PartialEq, Eq, PartialOrd, Ord)]
 pub struct Grains(u64);
 
 // Money, as grains times a tariff in 0.01 CHF/Mvarh, unrounded: 1,600,000 make one rappen.
-#[derive(Clone, Copy)]
+#[derive(Clone, Copy, Debug, PartialEq, Eq)]
 pub struct Amount(u64);

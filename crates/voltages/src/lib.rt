@@ -11,7 +11,7 @@ ghost use Rattle.voltages.specs.Voltages.{voltage};
 const MOST: u32 = 4_294_967_295;
 
 // A voltage, or the margin between two, in hundredths of a kilovolt.
-#[derive(Clone, Copy)]
+#[derive(Clone, Copy, Debug, PartialEq, Eq)]
 pub struct Voltage(u32);
 
 impl Voltage {
