@@ -57,8 +57,8 @@ fn has_points(master: MasterData) -> bool
 {
     let points = master.points;
     let count = master.count as usize;
-    for i in 0..count {
-        if !point_in_range(points[i]) {
+    for point in &points[..count] {
+        if !point_in_range(*point) {
             return false;
         }
     }
