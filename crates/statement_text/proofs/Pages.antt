@@ -1,11 +1,14 @@
 -- A page that is written one text after the other. Assumes nothing.
-use Prim.Native.Nat.{ℕ, zero, suc, ◌+◌, ◌-◌, ◌≤◌, ◌<◌}
+use Prim.Native.Nat.{ℕ, zero, suc, ◌+◌, ◌-◌, ◌≤◌}
 use mathlib.Core.Path.{◌≡◌, refl, sym, ap, subst, ◌∙◌}
-use mathlib.Core.List.{List, [], ◌∷◌, ◌++◌}
-use native.Mathlib.Numerals.{add-one, unary_clauses}
+use mathlib.Core.List.{List, [], ◌∷◌, ◌++◌, append_assoc}
+use native.Mathlib.Numerals.{unary_clauses}
 use native.Mathlib.Omega.{arith}
-use lib.ListN.{length, get_or, set, take, drop, replicate, length-append, length-replicate}
-use lib.Seq.{sets, sets-eq, set_comm, take_all, take-suc}
+use borrow.Rule.Slice.PartMut.{put_mid}
+use lib.ListN.{length, set, take, drop, replicate, length-append, length-replicate}
+use lib.Seq.{sets, sets-eq, set_comm}
+use Rattle.std.proofs.lemmas.List.Edits.{paste_all}
+use Rattle.std.proofs.lemmas.Slice.{put_mid-paste}
 use Rattle.statement_text.specs.declared.page.Page.{Page}
 use Rattle.statement_text.specs.Steps.{Behind}
 use Rattle.statement_text.specs.Text.{page_of}
@@ -41,14 +44,13 @@ pub ◌then◌ : {p q r : Page} {s t : List ℕ} → Behind p s q → Behind q t
       longer = omega (arith, first.longer, second.longer, length-append s t);
     }
 
--- one letter more of a word
-pub letter : {p q r : Page} (w : List ℕ) (i : ℕ) → i < length w → Behind p (take i w) q → Behind q (get_or w i 0 ∷ []) r
-    → Behind p (take (i + 1) w) r
-letter w i h front next = rw (add-one i, take-suc w i 0 h) (front then next)
-
--- all of its letters
-pub whole_word : {p r : Page} (w : List ℕ) (i : ℕ) → length w ≤ i → Behind p (take i w) r → Behind p w r
-whole_word w i h all = rw (take_all i w h) at all
+-- a word copied behind the text of a page
+pub copied : (l w new : List ℕ) (at k : ℕ) → new ≡ w → k ≡ length w → at + length w ≤ length l → put_mid at k l new ≡ sets l at w
+copied l w new at k e n h =
+    put_mid-paste at k l new w (length w) e (sym n) refl
+    ∙ paste_all l at w (length w) refl
+    ∙ sym (append_assoc (take at l) w (drop (at + length w) l))
+    ∙ sym (sets-eq w l at h)
 
 -- zeros without the first of them
 fewer : (k n : ℕ) → drop k (replicate {A = ℕ} n 0) ≡ replicate (n - k) 0

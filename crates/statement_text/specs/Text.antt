@@ -1,5 +1,5 @@
 -- Document 01, "Statement", and document 02, Ticket 1: the bytes that are printed. Assumes nothing.
-use Rattle.std.specs.Prelude.{ℕ, zero, suc, ◌+◌, ◌-◌, ◌/◌, ◌%◌, cond, List, [], ◌∷◌, ◌++◌, ltb, eqb, length, take, replicate}
+use Rattle.std.specs.Prelude.{ℕ, zero, suc, ◌+◌, ◌-◌, ◌/◌, ◌%◌, cond, List, [], ◌∷◌, ◌++◌, Result, Ok, Err, ltb, length, take, replicate}
 use Rattle.statement_text.specs.declared.Line.{Line}
 use Rattle.statement_text.specs.declared.Statement.{Statement}
 use Rattle.statement_text.specs.declared.page.Page.{Page}
@@ -60,12 +60,10 @@ points_text p (l ∷ ls) = point_text p l ++ points_text (suc p) ls
 unfoldable pub total_text : Line → List ℕ
 total_text l = line_text (0x74 ∷ 0x6f ∷ 0x74 ∷ 0x61 ∷ 0x6c ∷ []) l
 
--- the whole text
-unfoldable pub text_of : Statement → List ℕ
-text_of s =
-    cond (eqb s.number 0)
-    (month_text s ++ points_text 0 (take s.count s.lines) ++ total_text s.total)
-    (refused_text s.number)
+-- the whole text, of a month or of a refusal
+unfoldable pub text_of : Result Statement ℕ → List ℕ
+text_of (Ok s) = month_text s ++ points_text 0 (take s.count s.lines) ++ total_text s.total
+text_of (Err number) = refused_text number
 
 -- a page of 2,048 bytes with this text at its start, and zeros behind it
 unfoldable pub page_of : List ℕ → Page

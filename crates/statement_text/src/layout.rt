@@ -6,20 +6,20 @@ ghost use Rattle.statement_text.specs.Text.{refused_text, month_text, columns_te
 
 use crate::{Line, Page, Statement};
 
-// The page that is printed for a statement.
-pub fn text_of(statement: Statement) -> Page
+// The page that is printed for a statement, or for the number of a refusal.
+pub fn text_of(statement: Result<Statement, u32>) -> Page
     ensures value { result ≡ page_of (text_of statement) }
     ensures length_in_bounds { result.length ≤ length result.bytes }
 {
     let blank = Page::blank();
-    let number = statement.number;
-    if number != 0 {
-        return refused(blank, number);
+    match statement {
+        Ok(statement) => {
+            let first = month(blank, statement);
+            let above = points(first, statement.count as usize, statement.lines);
+            total(above, statement.total)
+        }
+        Err(number) => refused(blank, number),
     }
-    let lines = statement.lines;
-    let first = month(blank, statement);
-    let above = points(first, statement.count as usize, lines);
-    total(above, statement.total)
 }
 
 // "refused N".
@@ -51,11 +51,9 @@ fn points(mut page: Page, count: usize, lines: [Line; 8]) -> Page
     ensures behind { Behind page (points_text 0 (take count lines)) result }
     ensures length_bound { result.length ≤ page.length + 1512 }
 {
-    for i in 0..8 {
-        if i == count {
-            return page;
-        }
-        page = point(page, i, lines[i]);
+    let counted = &lines[..count.min(8)];
+    for (number, line) in counted.iter().enumerate() {
+        page = point(page, number, *line);
     }
     page
 }

@@ -8,7 +8,7 @@ pub use layout::text_of;
 pub use page::Page;
 
 // A line of the statement: energies in grains, credit and debit in rappen.
-#[derive(Clone, Copy)]
+#[derive(Clone, Copy, Debug, PartialEq, Eq)]
 pub struct Line {
     pub absolute: u64,
     pub paid: u64,
@@ -32,11 +32,9 @@ pub const NO_FIGURES: Line = Line {
     debit: 0,
 };
 
-// What is to be printed: the number of a refusal; or 0, and the figures of the first line, of each
-// point and of the total. Beside a refusal the figures are 0.
-#[derive(Clone, Copy)]
+// What is printed of a month: the figures of the first line, of each point and of the total.
+#[derive(Clone, Copy, Debug, PartialEq, Eq)]
 pub struct Statement {
-    pub number: u32,
     pub year: u16,
     pub month: u8,
     pub quarters: u16,

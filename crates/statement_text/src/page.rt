@@ -7,7 +7,7 @@ ghost use Rattle.statement_text.specs.Steps.{Behind};
 ghost use Rattle.statement_text.specs.Text.{decimal, spaced, two_digits, page_of};
 
 // Bytes of text, and how many there are. The bytes behind them are 0.
-#[derive(Clone, Copy)]
+#[derive(Clone, Copy, Debug, PartialEq, Eq)]
 pub struct Page {
     pub bytes: [u8; 2048],
     pub length: usize,
@@ -41,9 +41,10 @@ impl Page {
         requires { self.length + length word.now ≤ 2048 }
         ensures { Behind self word.now result }
     {
-        for i in 0..word.len() {
-            self = self.byte(word[i]);
-        }
+        let start = self.length;
+        let end = start + word.len();
+        self.bytes[start..end].copy_from_slice(word);
+        self.length = end;
         self
     }
 
