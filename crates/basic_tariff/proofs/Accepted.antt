@@ -8,7 +8,6 @@ use borrow.Author.Tests.{ltb-false}
 use lib.Dec.{ltb, eqb}
 use lib.ListN.{length}
 use Rattle.refusals.proofs.Tests.{neither}
-use Rattle.lists.proofs.Laws.{none-at}
 use Rattle.basic_tariff.specs.BasicTariff.{Point, point_at, energy_out_of_range, is_idle, point_refused, any_refused, call_refused, refused}
 
 -- a point that is not turned away
@@ -60,8 +59,6 @@ module _ (tariff n : ℕ) (drawn fed_in : List ℕ) (h : refused tariff n drawn 
   unfolding refused
   call_of = call tariff n drawn fed_in (neither (call_refused tariff n drawn fed_in) _ h).0
 
-  pub point-of : (i : ℕ) → i < n → point_refused (point_at drawn fed_in i) ≡ false
+  pub none_of : any_refused (point_at drawn fed_in) n ≡ false
   unfolding refused
-  point-of i k =
-      let none = (neither (call_refused tariff n drawn fed_in) (any_refused (point_at drawn fed_in) n) h).1 in
-      none-at (λ j. point_refused (point_at drawn fed_in j)) n i none k
+  none_of = (neither (call_refused tariff n drawn fed_in) (any_refused (point_at drawn fed_in) n) h).1

@@ -3,5 +3,5 @@ pub mod Table
 pub mod Factors
 pub mod Accepted
 pub mod Sums
-pub mod Refusing
+pub mod Rows
 pub mod Source

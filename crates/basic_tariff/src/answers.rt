@@ -1,17 +1,16 @@
-// The number of each answer.
+// The number of a refusal.
 ghost use Rattle.std.specs.Prelude.{◌≡◌};
 ghost use Rattle.basic_tariff.specs.Numbers.{number_of};
 
-use crate::ChargeAnswer;
+use crate::ChargeRefusal;
 
-impl ChargeAnswer {
-    // 02's number; 0 where the charge was made.
-    pub fn number(self) -> u32
-        ensures { result ≡ number_of self }
-    {
-        match self {
-            ChargeAnswer::Charged => 0,
-            ChargeAnswer::OutOfRange => 16,
+// 02's number.
+impl From<ChargeRefusal> for u32 {
+    ghost from_gives = { λ refusal number. number ≡ number_of refusal };
+
+    fn from(refusal: ChargeRefusal) -> u32 {
+        match refusal {
+            ChargeRefusal::OutOfRange => 16,
         }
     }
 }

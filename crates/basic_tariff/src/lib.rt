@@ -10,16 +10,8 @@ mod weights;
 
 pub use charge::basic_charge;
 
-// The answer of a charge: made, or 02's refusal.
-#[derive(Clone, Copy)]
-pub enum ChargeAnswer {
-    Charged,
+// Why nothing is charged: 02's refusal.
+#[derive(Clone, Copy, Debug, PartialEq, Eq)]
+pub enum ChargeRefusal {
     OutOfRange,
-}
-
-// A charge in rappen; 0 beside a refusal.
-#[derive(Clone, Copy)]
-pub struct BasicCharge {
-    pub answer: ChargeAnswer,
-    pub charge: u64,
 }

@@ -1,8 +1,10 @@
 // What is turned away.
-ghost use Rattle.std.specs.Prelude.{◌≡◌, ◌≤◌, length};
-ghost use Rattle.basic_tariff.specs.BasicTariff.{point, point_at, point_refused, any_refused, refused};
+ghost use Rattle.std.specs.Prelude.{◌≡◌};
+ghost use Rattle.std.specs.List.{list_any, zip};
+ghost use Rattle.basic_tariff.specs.BasicTariff.{point, point_refused, refused};
 
 // Whether tariff or count is out of range, a counted point has no place in a slice, or is itself turned away.
+#[tactic(auto, unfolding(crate::specs::BasicTariff::refused, crate::specs::BasicTariff::call_refused))]
 pub(crate) fn is_refused(fixed_tariff: u32, points: u32, drawn: &[u64], fed_in: &[u64]) -> bool
     ensures { result ≡ refused fixed_tariff points drawn.now fed_in.now }
 {
@@ -15,23 +17,21 @@ pub(crate) fn is_refused(fixed_tariff: u32, points: u32, drawn: &[u64], fed_in: 
     {
         return true;
     }
-    any_refused(count, drawn, fed_in)
+    any_refused(&drawn[..count], &fed_in[..count])
 }
 
-// Whether one of the counted points is turned away.
-fn any_refused(count: usize, drawn: &[u64], fed_in: &[u64]) -> bool
-    requires count_in_bounds { count ≤ length drawn.now }
-    requires count_in_bounds_2 { count ≤ length fed_in.now }
-    ensures { result ≡ any_refused (point_at drawn.now fed_in.now) count }
+// Whether one of the points is turned away.
+fn any_refused(drawn: &[u64], fed_in: &[u64]) -> bool
+    ensures { result ≡ list_any (λ p. point_refused (point p.0 p.1)) (zip drawn.now fed_in.now) }
 {
-    let mut refused = false;
-    for i in 0..count {
-        refused = refused | point_refused(drawn[i], fed_in[i]);
-    }
-    refused
+    drawn
+        .iter()
+        .zip(fed_in)
+        .any(|(drawn, fed_in)| point_refused(*drawn, *fed_in))
 }
 
 // Whether an energy of the point is out of range, or both are 0.
+#[tactic(auto, unfolding(crate::specs::BasicTariff::point_refused))]
 fn point_refused(drawn: u64, fed_in: u64) -> bool
     ensures { result ≡ point_refused (point drawn fed_in) }
 {

@@ -8,36 +8,34 @@ ghost use Rattle.calendar.specs.Calendar.{leap, days_of, quarters_of};
 pub const MOST_QUARTERS: usize = 2_980;
 
 // The quarter-hours of a month, 96 a day but where the clock changes; 0 where there is no such month.
+#[tactic(auto, unfolding(crate::specs::Calendar::quarters_of))]
 pub fn quarters_of_month(year: u16, month: u8) -> u16
     ensures { result ≡ quarters_of year month }
 {
-    if month == 3 {
-        return 2_972;
+    match month {
+        3 => 2_972,
+        10 => 2_980,
+        _ => 96 * days_of_month(year, month),
     }
-    if month == 10 {
-        return 2_980;
-    }
-    96 * days_of_month(year, month)
 }
 
 // The days of a month; 0 where there is no such month.
+#[tactic(auto, unfolding(crate::specs::Calendar::days_of))]
 fn days_of_month(year: u16, month: u8) -> u16
     ensures value { result ≡ days_of year month }
     ensures upper_bound { result ≤ 31 }
 {
-    if month == 2 {
-        return if is_leap(year) { 29 } else { 28 };
+    match month {
+        2 if is_leap(year) => 29,
+        2 => 28,
+        4 | 6 | 9 | 11 => 30,
+        1..=12 => 31,
+        _ => 0,
     }
-    if (month == 4) | (month == 6) | (month == 9) | (month == 11) {
-        return 30;
-    }
-    if (1 <= month) & (month <= 12) {
-        return 31;
-    }
-    0
 }
 
 // Whether a year is a leap year.
+#[tactic(auto, unfolding(crate::specs::Calendar::leap))]
 fn is_leap(year: u16) -> bool
     ensures { result ≡ leap year }
 {

@@ -41,6 +41,7 @@ fn row(k: u64) {
 }
 
 // K of a share, in 600ths.
+#[tactic(auto, unfolding(basic_tariff::specs::BasicTariff::K))]
 fn k_of(share: u64) -> u64
     ensures { result ≡ K share }
 {

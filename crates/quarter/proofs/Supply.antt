@@ -7,6 +7,8 @@ use native.Mathlib.Nat.{sub-zero}
 use native.Mathlib.Omega.{arith}
 use borrow.Author.Tests.{ltb-true, ltb-false, lt-ltb, le-leb, lt-leb, eqb-true, eqb-false}
 use lib.Dec.{ltb, eqb}
+use Rattle.std.specs.Ordering.{is_lt, nat_cmp}
+use Rattle.std.proofs.lemmas.Grind.{common_steps}
 use Rattle.quantity.specs.declared.Grains.{Grains}
 use Rattle.quantity.specs.Quantity.{grains, capped}
 use Rattle.quarter.specs.declared.Role.{Role}
@@ -25,6 +27,10 @@ use Rattle.quarter.specs.Steps.{semi_active_supply, allowance_of}
 pub limit : (l : Level) → capped 32 (tolerance l + active_free l) ≡ tolerance l + active_free l
 limit Kv220 = refl
 limit Kv380 = refl
+
+-- whether one number is below another, as the library compares them
+pub less : (a b : ℕ) → is_lt (nat_cmp a b) ≡ ltb a b
+less a b = grind (arith, common_steps)
 
 -- the class and the allowance make 01's lines
 split : Class → Grains → ℕ → Shares

@@ -1,24 +1,13 @@
--- `basic_tariff::ranges::is_refused` meets its contract.
-use Rattle.basic_tariff.specs.BasicTariff.{call_refused}
+-- `basic_tariff::ranges::is_refused` meets its contract: where the call itself passes, its points decide.
+use mathlib.Core.Path.{◌∙◌}
+use Rattle.basic_tariff.specs.BasicTariff.{call_refused, refused}
 use Rattle.basic_tariff.proofs.Accepted.{call}
-use Rattle.basic_tariff.proofs.Refusing.{unread, by_points}
+use Rattle.basic_tariff.proofs.Rows.{any_pairs}
 use Rattle.basic_tariff.proofs.ranges.is_refused.Goals as goal
 
-pub returns-then-fixed_tariff-count : goal.returns-then-fixed_tariff-count
-unfolding call_refused
-returns-then-fixed_tariff-count c =
-    let a = c.args in
-    unread a.fixed_tariff a.points a.drawn.now a.fed_in.now c.if-fixed_tariff-count.true
-
-pub any_refused-requires : goal.any_refused-requires
-unfolding call_refused
-any_refused-requires c =
-    let a = c.args in
-    let k = call a.fixed_tariff a.points a.drawn.now a.fed_in.now c.if-fixed_tariff-count.false in
-    record { count_in_bounds = k.drawn; count_in_bounds_2 = k.fed_in }
-
 pub returns : goal.returns
-unfolding call_refused
+unfolding refused call_refused
 returns c =
     let a = c.args in
-    by_points a.fixed_tariff a.points a.drawn.now a.fed_in.now c.if-fixed_tariff-count.false c.any_refused.ensures
+    let k = call a.fixed_tariff a.points a.drawn.now a.fed_in.now c.if-fixed_tariff-count.false in
+    rw c.if-fixed_tariff-count.false (c.any_refused.ensures ∙ any_pairs a.drawn.now a.fed_in.now a.points k.drawn k.fed_in)
