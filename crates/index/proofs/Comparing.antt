@@ -1,15 +1,14 @@
 -- Indexes compared place by place, and a slice that says what an index says. Assumes nothing.
 use Prim.Native.Nat.{ℕ, zero, suc, ◌+◌, ◌≤◌, ◌<◌}
-use mathlib.Core.Path.{◌≡◌, refl, sym, ap, ◌∙◌}
+use mathlib.Core.Path.{◌≡◌, refl, sym, ap, ap₂, ◌∙◌}
 use mathlib.Core.Bool.{Bool, true, false, not, ◌&&◌, ◌||◌}
 use mathlib.Core.List.{List, ◌++◌}
+use native.Mathlib.Numerals.{add-one}
 use native.Mathlib.Omega.{arith}
-use borrow.Author.Tests.{eqb-true, eq-eqb, ltb-false, lt-ltb, le-ltb, not-true, not-false}
+use borrow.Author.Tests.{eqb-true, eq-eqb, ltb-false, lt-ltb, le-ltb, not-false}
 use lib.Dec.{eqb}
 use lib.ListN.{length, get_or, take, drop, length-append, take-append-drop, get_or-append}
 use lib.Seq.{ext_get_or, get_or-take, length-take-le}
-use Rattle.std.specs.Bool.{Decides}
-use Rattle.std.proofs.lemmas.Bool.Decides.{same_from_decides}
 use Rattle.lists.specs.Lists.{any_below}
 use Rattle.lists.proofs.Laws.{none-at, tests_same}
 use Rattle.index.specs.Index.{places_of, index_of, indexed, short_index, differ}
@@ -41,33 +40,31 @@ pub front_long : (count places : ℕ) (slice : List ℕ) → places ≡ places_o
     → length (take places slice) ≡ places
 front_long count places slice e h = length-take-le places slice (omega (arith, e, long_enough count slice h))
 
--- Two slices, and the parts of them with the first n places.
-module _ (n : ℕ) (one other : List ℕ) (long : length (take n one) ≡ n) (also : length (take n other) ≡ n) where
-  -- where no place differs, the parts are equal
-  parts_same : differ n one other ≡ false → take n one ≡ take n other
-  unfolding differ
-  parts_same h =
-      ext_get_or 0 (take n one) (take n other) (long ∙ sym also)
-      (λ i within.
-      let k : i < n = omega arith in
-      get_or-take n one i 0 k
-      ∙ eqb-true _ _ (not-false _ (none-at (λ x. not (eqb (get_or one x 0) (get_or other x 0))) n i h k))
-      ∙ sym (get_or-take n other i 0 k))
+-- none of no places differs
+pub none_differ : (one other : List ℕ) → true ≡ not (differ 0 one other)
+unfolding differ any_below
+none_differ one other = refl
 
-  -- where the parts are equal, no place differs
-  none_differ : take n one ≡ take n other → differ n one other ≡ false
-  unfolding differ
-  none_differ e =
-      none_below (λ k. not (eqb (get_or one k 0) (get_or other k 0))) n
-      (λ k h.
-      ap not
-      (eq-eqb _ _ (sym (get_or-take n one k 0 h) ∙ ap (λ (l : List ℕ). get_or l k 0) e ∙ get_or-take n other k 0 h)))
+-- both of two tests hold where neither fails
+both_hold : (a b : Bool) → (not a && b) ≡ not (a || not b)
+both_hold true b = refl
+both_hold false true = refl
+both_hold false false = refl
 
-  -- so whether they are equal says whether none differs
-  pub agrees : (same : Bool) → Decides same (take n one ≡ take n other) → same ≡ not (differ n one other)
-  agrees same d =
-      same_from_decides same (not (differ n one other)) d
-      ((λ h. parts_same (not-true _ h)), (λ e. ap not (none_differ e)))
+-- one place more
+differ-next : (n : ℕ) (one other : List ℕ) (same : Bool) → same ≡ not (differ n one other)
+    → (same && eqb (get_or one n 0) (get_or other n 0)) ≡ not (differ (n + 1) one other)
+unfolding differ any_below
+differ-next n one other same e =
+    rw (add-one, e) (both_hold (differ n one other) (eqb (get_or one n 0) (get_or other n 0)))
+
+-- and so by the parts with the first n places, where k of them were compared
+pub place_compared : (n k m : ℕ) (one other : List ℕ) (same : Bool) (x y : ℕ) → same ≡ not (differ k one other) → k < n → m ≡ k + 1
+    → x ≡ get_or (take n one) k 0 → y ≡ get_or (take n other) k 0 → (same && eqb x y) ≡ not (differ m one other)
+place_compared n k m one other same x y e h one_more ex ey =
+    ap₂ (λ (a b : ℕ). same && eqb a b) (ex ∙ get_or-take n one k 0 h) (ey ∙ get_or-take n other k 0 h)
+    ∙ differ-next k one other same e
+    ∙ ap (λ (i : ℕ). not (differ i one other)) (sym one_more)
 
 -- An index of so many points, in a month of so many quarters, of the first n entries.
 module _ (count quarters n : ℕ) (j : List ℕ) where
