@@ -2,6 +2,7 @@
 use Prim.Native.Nat.{ℕ}
 use mathlib.Core.Path.{◌≡◌, refl, ap}
 use mathlib.Core.List.{List}
+use Rattle.std.specs.Prelude.{Option, Some, None, is_none}
 use native.Mathlib.Omega.{arith}
 use borrow.Author.Tests.{eqb-true}
 use lib.Dec.{eqb}
@@ -13,33 +14,31 @@ use Rattle.record_fields.proofs.Overwriting.{Overwriting, overwriting}
 use Rattle.record_fields.proofs.Readable.{Reads, all_read}
 use Rattle.record_fields.proofs.RoundTrips.{trip}
 use Rattle.header_record.specs.declared.Header.{Header}
-use Rattle.header_record.specs.declared.HeaderAnswer.{HeaderAnswer}
-use Rattle.header_record.specs.declared.HeaderAnswer.TheVariants.{Read, Refused}
 use Rattle.header_record.specs.Header.{header_in_range, header_kind, header_given, read_header}
-use Rattle.header_record.specs.Header.{decoded_header, encoded_header, header_in, is_refused, wrong_header}
+use Rattle.header_record.specs.Header.{decoded_header, encoded_header, header_in, wrong_header}
 use Rattle.header_record.proofs.Headers.{header_lawful}
 
 -- no two answers give the same
-given-same : (a b : HeaderAnswer) → header_given a ≡ header_given b → a ≡ b
+given-same : (a b : Option Header) → header_given a ≡ header_given b → a ≡ b
 unfolding header_given
-given-same (Read x) (Read y) e = ap (λ (g : ℕ × Header). Read g.1) e
-given-same (Read x) Refused e = let z : ◌≡◌ {A = ℕ} 0 2 = ap (λ (g : ℕ × Header). g.0) e in absurd (omega arith)
-given-same Refused (Read y) e = let z : ◌≡◌ {A = ℕ} 2 0 = ap (λ (g : ℕ × Header). g.0) e in absurd (omega arith)
-given-same Refused Refused e = refl
+given-same (Some x) (Some y) e = ap (λ (g : ℕ × Header). Some g.1) e
+given-same (Some x) None e = let z : ◌≡◌ {A = ℕ} 0 2 = ap (λ (g : ℕ × Header). g.0) e in absurd (omega arith)
+given-same None (Some y) e = let z : ◌≡◌ {A = ℕ} 2 0 = ap (λ (g : ℕ × Header). g.0) e in absurd (omega arith)
+given-same None None e = refl
 
 -- so the answer that gives what the bytes do is that of the definitions
-pub header-decoded : (r : HeaderAnswer) (bytes : List ℕ) → header_given r ≡ read_header bytes → r ≡ decoded_header bytes
+pub header-decoded : (r : Option Header) (bytes : List ℕ) → header_given r ≡ read_header bytes → r ≡ decoded_header bytes
 unfolding header_given read_header decoded_header
-header-decoded r bytes e = answered header_kind Read Refused header_given given-same r bytes e
+header-decoded r bytes e = answered header_kind Some None header_given given-same r bytes e
 
-pub header_reads : Reads 7 header_in_range Read Refused decoded_header header_in wrong_header
+pub header_reads : Reads 7 header_in_range Some None decoded_header header_in wrong_header
 unfolding decoded_header header_in wrong_header
-header_reads = all_read header_kind Read Refused is_refused (λ x. refl) refl (λ x y e. cc)
+header_reads = all_read header_kind Some None is_none (λ x. refl) refl (λ x y e. cc)
 
-pub header_round_trip : RoundTrip 7 header_in_range Read decoded_header encoded_header
+pub header_round_trip : RoundTrip 7 header_in_range Some decoded_header encoded_header
 unfolding decoded_header encoded_header fields_at
 header_round_trip =
-    trip header_kind header_lawful Read Refused
+    trip header_kind header_lawful Some None
     (λ x e. let z : ◌≡◌ {A = ℕ} 0 1 = cc in omega arith)
     (λ x y e. cc)
     (λ x. refl)
@@ -50,4 +49,4 @@ header_round_trip =
 
 pub header_overwriting : Overwriting 7 header_in_range encoded_header
 unfolding decoded_header encoded_header
-header_overwriting = overwriting header_kind Read Refused header_round_trip
+header_overwriting = overwriting header_kind Some None header_round_trip

@@ -1,8 +1,6 @@
 -- Document 01, "Month file": the header and its 7 bytes. Assumes nothing.
-use Rattle.std.specs.Prelude.{ℕ, Bool, true, false, ◌&&◌, List, [], ◌∷◌, leb, eqb, get_or}
+use Rattle.std.specs.Prelude.{ℕ, Bool, ◌&&◌, List, [], ◌∷◌, Option, Some, None, is_none, leb, eqb, get_or}
 use Rattle.header_record.specs.declared.Header.{Header}
-use Rattle.header_record.specs.declared.HeaderAnswer.{HeaderAnswer}
-use Rattle.header_record.specs.declared.HeaderAnswer.TheVariants.{Read, Refused}
 use Rattle.record_fields.specs.Record.{Kind, within, decoded, encoded}
 
 -- "the two bytes ..; year 12 bits ..; month 4 ..; points 4 ..; entries 20"
@@ -46,17 +44,17 @@ no_header = header_of []
 
 -- the number and the header that an answer gives. "An accepted call gives number 0. Beside a refusal's number every other figure given
 -- is 0"
-unfoldable pub header_given : HeaderAnswer → ℕ × Header
-header_given (Read h) = (0, h)
-header_given Refused = (2, no_header)
+unfoldable pub header_given : Option Header → ℕ × Header
+header_given (Some h) = (0, h)
+header_given None = (2, no_header)
 
 -- what bytes give. 2: "A header field wrong."; any other length than 7 bytes gives 2 too
 unfoldable pub read_header : List ℕ → ℕ × Header
 read_header bytes = decoded header_kind (λ h. (0, h)) (2, no_header) bytes
 
 -- the answer that gives it
-unfoldable pub decoded_header : List ℕ → HeaderAnswer
-decoded_header bytes = decoded header_kind Read Refused bytes
+unfoldable pub decoded_header : List ℕ → Option Header
+decoded_header bytes = decoded header_kind Some None bytes
 
 unfoldable pub encoded_header : Header → List ℕ → Bool × List ℕ
 encoded_header h bytes = encoded header_kind h bytes
@@ -65,9 +63,5 @@ unfoldable pub header_in : List ℕ → Header
 header_in bytes = within header_kind bytes
 
 -- whether these bytes are refused
-abbrev pub is_refused : HeaderAnswer → Bool
-is_refused (Read h) = false
-is_refused Refused = true
-
 unfoldable pub wrong_header : List ℕ → Bool
-wrong_header bytes = is_refused (decoded_header bytes)
+wrong_header bytes = is_none (decoded_header bytes)

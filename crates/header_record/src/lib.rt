@@ -21,19 +21,12 @@ const SECOND: u64 = OPENING[1] as u64;
 const WIDTHS: [usize; 6] = [8, 8, 12, 4, 4, 20];
 
 // The month, how many points the file has, and how many entries.
-#[derive(Clone, Copy)]
+#[derive(Clone, Copy, Debug, PartialEq, Eq)]
 pub struct Header {
     pub year: u16,
     pub month: u8,
     pub points: u8,
     pub entries: u32,
-}
-
-// What the bytes of a header hold.
-#[derive(Clone, Copy)]
-pub enum HeaderAnswer {
-    Read(Header),
-    Refused,
 }
 
 // Whether each field is in its range.
@@ -49,21 +42,21 @@ pub fn header_in_range(header: Header) -> bool
         & (header.entries <= 65_535)
 }
 
-// The header that the bytes hold.
-pub fn decode_header(bytes: &[u8]) -> HeaderAnswer
+// The header that the bytes hold; none where they are refused.
+pub fn decode_header(bytes: &[u8]) -> Option<Header>
     ensures { header_given result ≡ read_header bytes.now }
 {
     if bytes.len() != 7 {
-        return HeaderAnswer::Refused;
+        return None;
     }
     let mut values = [0u64; 6];
     read_fields(bytes, &WIDTHS, &mut values);
     let opens = (values[0] == FIRST) & (values[1] == SECOND);
     let header = header_of(values);
     if opens & header_in_range(header) {
-        return HeaderAnswer::Read(header);
+        return Some(header);
     }
-    HeaderAnswer::Refused
+    None
 }
 
 // The header that fields with these values make.

@@ -3,6 +3,7 @@ use Prim.Native.Nat.{ℕ, ◌<◌}
 use mathlib.Core.Path.{◌≡◌, refl, sym, ap}
 use mathlib.Core.Bool.{Bool, true, false, cond}
 use mathlib.Core.List.{List}
+use Rattle.std.specs.Prelude.{Option, Some, None, is_none}
 use native.Mathlib.Omega.{arith}
 use borrow.Author.Tests.{eqb-true, eqb-false}
 use lib.Dec.{eqb}
@@ -10,7 +11,7 @@ use Rattle.bits.specs.Fields.{field, fields_at}
 use Rattle.bits.proofs.Laws.{field_lt}
 use Rattle.quarter.specs.declared.Level.{Level}
 use Rattle.quarter.specs.declared.Level.TheVariants.{Kv220, Kv380}
-use Rattle.quarter.specs.Reading.{level_of}
+use Rattle.quarter.specs.Reading.{level_of, level_bit}
 use Rattle.record_fields.specs.RoundTrip.{RoundTrip}
 use Rattle.record_fields.proofs.Answers.{answered}
 use Rattle.record_fields.proofs.OneBit.{bit_back, bit_forth}
@@ -18,28 +19,26 @@ use Rattle.record_fields.proofs.Overwriting.{Overwriting, overwriting}
 use Rattle.record_fields.proofs.Readable.{Reads, all_read}
 use Rattle.record_fields.proofs.RoundTrips.{trip}
 use Rattle.point_record.specs.declared.Point.{Point}
-use Rattle.point_record.specs.declared.PointAnswer.{PointAnswer}
-use Rattle.point_record.specs.declared.PointAnswer.TheVariants.{Read, Refused}
-use Rattle.point_record.specs.Point.{level_bit, point_values, point_of, point_in_range, point_kind, point_given, read_point}
-use Rattle.point_record.specs.Point.{decoded_point, encoded_point, point_in, is_refused, wrong_point}
+use Rattle.point_record.specs.Point.{point_values, point_of, point_in_range, point_kind, point_given, read_point}
+use Rattle.point_record.specs.Point.{decoded_point, encoded_point, point_in, wrong_point}
 use Rattle.point_record.proofs.Points.{point_lawful}
 
 -- no two answers give the same
-given-same : (a b : PointAnswer) → point_given a ≡ point_given b → a ≡ b
+given-same : (a b : Option Point) → point_given a ≡ point_given b → a ≡ b
 unfolding point_given
-given-same (Read x) (Read y) e = ap (λ (g : ℕ × Point). Read g.1) e
-given-same (Read x) Refused e = let z : ◌≡◌ {A = ℕ} 0 4 = ap (λ (g : ℕ × Point). g.0) e in absurd (omega arith)
-given-same Refused (Read y) e = let z : ◌≡◌ {A = ℕ} 4 0 = ap (λ (g : ℕ × Point). g.0) e in absurd (omega arith)
-given-same Refused Refused e = refl
+given-same (Some x) (Some y) e = ap (λ (g : ℕ × Point). Some g.1) e
+given-same (Some x) None e = let z : ◌≡◌ {A = ℕ} 0 4 = ap (λ (g : ℕ × Point). g.0) e in absurd (omega arith)
+given-same None (Some y) e = let z : ◌≡◌ {A = ℕ} 4 0 = ap (λ (g : ℕ × Point). g.0) e in absurd (omega arith)
+given-same None None e = refl
 
 -- so the answer that gives what the bytes do is that of the definitions
-pub point-decoded : (r : PointAnswer) (bytes : List ℕ) → point_given r ≡ read_point bytes → r ≡ decoded_point bytes
+pub point-decoded : (r : Option Point) (bytes : List ℕ) → point_given r ≡ read_point bytes → r ≡ decoded_point bytes
 unfolding point_given read_point decoded_point
-point-decoded r bytes e = answered point_kind Read Refused point_given given-same r bytes e
+point-decoded r bytes e = answered point_kind Some None point_given given-same r bytes e
 
-pub point_reads : Reads 21 point_in_range Read Refused decoded_point point_in wrong_point
+pub point_reads : Reads 21 point_in_range Some None decoded_point point_in wrong_point
 unfolding decoded_point point_in wrong_point
-point_reads = all_read point_kind Read Refused is_refused (λ x. refl) refl (λ x y e. cc)
+point_reads = all_read point_kind Some None is_none (λ x. refl) refl (λ x y e. cc)
 
 -- level and bit give each other back
 level-back : (l : Level) → level_of (level_bit l) ≡ l
@@ -70,10 +69,10 @@ point-back p =
       fourth = p.fourth;
     }
 
-pub point_round_trip : RoundTrip 21 point_in_range Read decoded_point encoded_point
+pub point_round_trip : RoundTrip 21 point_in_range Some decoded_point encoded_point
 unfolding decoded_point encoded_point fields_at
 point_round_trip =
-    trip point_kind point_lawful Read Refused
+    trip point_kind point_lawful Some None
     (λ x e. let z : ◌≡◌ {A = ℕ} 0 1 = cc in omega arith)
     (λ x y e. cc)
     (λ x. refl)
@@ -82,4 +81,4 @@ point_round_trip =
 
 pub point_overwriting : Overwriting 21 point_in_range encoded_point
 unfolding decoded_point encoded_point
-point_overwriting = overwriting point_kind Read Refused point_round_trip
+point_overwriting = overwriting point_kind Some None point_round_trip

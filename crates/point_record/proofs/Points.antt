@@ -13,9 +13,10 @@ use Rattle.quarter.specs.declared.Level.{Level}
 use Rattle.quarter.specs.declared.Level.TheVariants.{Kv220, Kv380}
 use Rattle.quarter.specs.declared.Transformer.{Transformer}
 use Rattle.quarter.specs.Ranges.{tariffs_in_range}
+use Rattle.quarter.specs.Reading.{level_bit}
 use Rattle.quarter.proofs.InRange.{tariffs_most}
 use Rattle.point_record.specs.declared.Point.{Point}
-use Rattle.point_record.specs.Point.{point_widths, level_bit, point_values, place_in_range, point_in_range, point_kind}
+use Rattle.point_record.specs.Point.{point_widths, point_values, place_in_range, point_in_range, point_kind}
 use Rattle.record_fields.proofs.Answers.{Lawful}
 use Rattle.record_fields.proofs.OneBit.{bit_fits}
 

@@ -1,14 +1,10 @@
 -- Document 01, "Month file": a point and its 21 bytes, and its band. Assumes nothing.
-use Rattle.std.specs.Prelude.{ℕ, ◌*◌, Bool, true, false, cond, not, ◌&&◌, ◌||◌, List, [], ◌∷◌, ltb, leb, eqb, get_or, take}
+use Rattle.std.specs.Prelude.{ℕ, ◌*◌, Bool, true, cond, not, ◌&&◌, ◌||◌, List, [], ◌∷◌, Option, Some, None, is_none, ltb, leb, eqb, get_or, take}
 use mir.Val.{bool_byte}
-use Rattle.quarter.specs.declared.Level.{Level}
-use Rattle.quarter.specs.declared.Level.TheVariants.{Kv220, Kv380}
 use Rattle.quarter.specs.declared.Transformer.{Transformer}
 use Rattle.quarter.specs.Ranges.{tariffs_in_range}
-use Rattle.quarter.specs.Reading.{level_of}
+use Rattle.quarter.specs.Reading.{level_of, level_bit}
 use Rattle.point_record.specs.declared.Point.{Point}
-use Rattle.point_record.specs.declared.PointAnswer.{PointAnswer}
-use Rattle.point_record.specs.declared.PointAnswer.TheVariants.{Read, Refused}
 use Rattle.record_fields.specs.Record.{Kind, within, decoded, encoded}
 
 -- "role 1 bit ..; level 1 ..; transformers 3 ..; payment tariff, billing tariff, penalty 17 bits each ..; then four places of uk 12
@@ -16,12 +12,7 @@ use Rattle.record_fields.specs.Record.{Kind, within, decoded, encoded}
 abbrev pub point_widths : List ℕ
 point_widths = 1 ∷ 1 ∷ 3 ∷ 17 ∷ 17 ∷ 17 ∷ 12 ∷ 16 ∷ 12 ∷ 16 ∷ 12 ∷ 16 ∷ 12 ∷ 16 ∷ []
 
--- "level 1 (0 is 220 kV, 1 is 380 kV)"; `level_of` of the quarter-hour reads it
-abbrev pub level_bit : Level → ℕ
-level_bit Kv220 = 0
-level_bit Kv380 = 1
-
--- the values of these fields; "role 1 bit (0 active, 1 semi-active)"
+-- the values of these fields; "role 1 bit (0 active, 1 semi-active)", "level 1 (0 is 220 kV, 1 is 380 kV)"
 abbrev pub point_values : Point → List ℕ
 point_values p =
     bool_byte p.semi_active
@@ -85,17 +76,17 @@ no_point = point_of []
 
 -- the number and the point that an answer gives. "An accepted call gives number 0. Beside a refusal's number every other figure given
 -- is 0"
-unfoldable pub point_given : PointAnswer → ℕ × Point
-point_given (Read p) = (0, p)
-point_given Refused = (4, no_point)
+unfoldable pub point_given : Option Point → ℕ × Point
+point_given (Some p) = (0, p)
+point_given None = (4, no_point)
 
 -- what bytes give. 4: "A point record breaks a rule above."; any other length than 21 bytes gives 4 too
 unfoldable pub read_point : List ℕ → ℕ × Point
 read_point bytes = decoded point_kind (λ p. (0, p)) (4, no_point) bytes
 
 -- the answer that gives it
-unfoldable pub decoded_point : List ℕ → PointAnswer
-decoded_point bytes = decoded point_kind Read Refused bytes
+unfoldable pub decoded_point : List ℕ → Option Point
+decoded_point bytes = decoded point_kind Some None bytes
 
 unfoldable pub encoded_point : Point → List ℕ → Bool × List ℕ
 encoded_point p bytes = encoded point_kind p bytes
@@ -112,9 +103,5 @@ abbrev pub product : Bool → Transformer → ℕ
 product counts t = cond counts (t.uk * t.sn) 0
 
 -- whether these bytes are refused
-abbrev pub is_refused : PointAnswer → Bool
-is_refused (Read p) = false
-is_refused Refused = true
-
 unfoldable pub wrong_point : List ℕ → Bool
-wrong_point bytes = is_refused (decoded_point bytes)
+wrong_point bytes = is_none (decoded_point bytes)

@@ -6,12 +6,12 @@ ghost use Rattle.std.specs.Prelude.{◌≡◌, ◌+◌, ◌*◌, ◌^◌, ◌<�
 ghost use Rattle.quantity.specs.Quantity.{grains};
 ghost use Rattle.quarter.specs.Reading.{band};
 ghost use Rattle.record_fields.specs.Layout.{Small};
-ghost use Rattle.point_record.specs.Point.{point_widths, level_bit, point_values, place, point_of};
+ghost use Rattle.point_record.specs.Point.{point_widths, point_values, place, point_of};
 ghost use Rattle.point_record.specs.Point.{place_in_range, point_in_range, point_given, read_point};
 ghost use Rattle.point_record.specs.Point.{encoded_point, counted, product};
 
 use quantity::Grains;
-use quarter::{Level, Tariffs, Transformer, level_of, tariffs_in_range};
+use quarter::{Level, Tariffs, Transformer, tariffs_in_range};
 use record_fields::{read_fields, write_fields};
 
 // The widths of the fields: role, level, transformers, payment and billing tariff, penalty, and the
@@ -19,7 +19,7 @@ use record_fields::{read_fields, write_fields};
 const WIDTHS: [usize; 14] = [1, 1, 3, 17, 17, 17, 12, 16, 12, 16, 12, 16, 12, 16];
 
 // A supply point. Of its four places for transformers the first `transformers` are counted.
-#[derive(Clone, Copy)]
+#[derive(Clone, Copy, Debug, PartialEq, Eq)]
 pub struct Point {
     pub semi_active: bool,
     pub level: Level,
@@ -29,13 +29,6 @@ pub struct Point {
     pub second: Transformer,
     pub third: Transformer,
     pub fourth: Transformer,
-}
-
-// What the bytes of a point hold.
-#[derive(Clone, Copy)]
-pub enum PointAnswer {
-    Read(Point),
-    Refused,
 }
 
 // The band of a point: uk times Sn summed over the counted transformers, in grains.
@@ -83,20 +76,20 @@ fn place_in_range(counts: bool, place: Transformer) -> bool
         | !counts & (place.uk == 0) & (place.sn == 0)
 }
 
-// The point that the bytes hold.
-pub fn decode_point(bytes: &[u8]) -> PointAnswer
+// The point that the bytes hold; none where they are refused.
+pub fn decode_point(bytes: &[u8]) -> Option<Point>
     ensures { point_given result ≡ read_point bytes.now }
 {
     if bytes.len() != 21 {
-        return PointAnswer::Refused;
+        return None;
     }
     let mut values = [0u64; 14];
     read_fields(bytes, &WIDTHS, &mut values);
     let point = point_of(values);
     if point_in_range(point) {
-        return PointAnswer::Read(point);
+        return Some(point);
     }
-    PointAnswer::Refused
+    None
 }
 
 // The point that fields with these values make.
@@ -115,7 +108,7 @@ fn point_of(values: [u64; 14]) -> Point
     };
     Point {
         semi_active: values[0] == 1,
-        level: level_of(values[1]),
+        level: Level::from(values[1]),
         transformers,
         tariffs,
         first: place_of(values, 6),
@@ -128,8 +121,8 @@ fn point_of(values: [u64; 14]) -> Point
 // The transformer whose uk is the value number `at`, and whose Sn is the next one.
 fn place_of(values: [u64; 14], at: usize) -> Transformer
     requires at_bound { at < 13 }
-    requires at_bound_2 { get_or values at 0 < 2 ^ 12 }
-    requires at_bound_3 { get_or values (at + 1) 0 < 2 ^ 16 }
+    requires uk_fits { get_or values at 0 < 2 ^ 12 }
+    requires sn_fits { get_or values (at + 1) 0 < 2 ^ 16 }
     ensures { result ≡ place (get_or values at 0) (get_or values (at + 1) 0) }
 {
     let uk = values[at] as u16;
@@ -157,7 +150,7 @@ fn point_values(point: Point) -> [u64; 14]
     let level = point.level;
     [
         point.semi_active as u64,
-        level_bit(level),
+        u64::from(level),
         point.transformers as u64,
         point.tariffs.payment as u64,
         point.tariffs.billing as u64,
@@ -171,14 +164,4 @@ fn point_values(point: Point) -> [u64; 14]
         point.fourth.uk as u64,
         point.fourth.sn as u64,
     ]
-}
-
-// The bit that stands for a level.
-fn level_bit(level: Level) -> u64
-    ensures { result ≡ level_bit level }
-{
-    match level {
-        Level::Kv220 => 0,
-        Level::Kv380 => 1,
-    }
 }

@@ -3,7 +3,6 @@ ghost use Rattle.std.specs.Prelude.{◌≡◌, ◌+◌, ◌-◌};
 ghost use Rattle.quantity.specs.Quantity.{capped, rappen};
 
 use crate::Amount;
-use crate::capped::{difference, sum};
 
 impl Amount {
     // How many, unrounded.
@@ -17,14 +16,14 @@ impl Amount {
     pub fn plus(self, other: Amount) -> Amount
         ensures { result.0 ≡ capped 64 (self.0 + other.0) }
     {
-        Amount(sum(self.0, other.0))
+        Amount(self.0.saturating_add(other.0))
     }
 
     // The difference.
     pub fn minus(self, other: Amount) -> Amount
         ensures { result.0 ≡ self.0 - other.0 }
     {
-        Amount(difference(self.0, other.0))
+        Amount(self.0.saturating_sub(other.0))
     }
 
     // This amount in whole rappen, halves up. The sum of the rule itself could wrap.

@@ -2,7 +2,6 @@ pub mod Agreement
 pub mod Band
 pub mod Conservation
 pub mod Directions
-pub mod Filing
 pub mod InRange
 pub mod Signed
 pub mod Supply

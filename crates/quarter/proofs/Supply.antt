@@ -1,14 +1,14 @@
 -- The lines of document 01 for a supply, each from the tests that lead to it.
 -- Assumes nothing.
-use Prim.Native.Nat.{ℕ, ◌+◌, ◌-◌, ◌*◌, ◌^◌, ◌≤◌, ◌<◌, zero-le}
-use mathlib.Core.Path.{◌≡◌, refl, sym, ap, ap₂, ◌∙◌}
+use Prim.Native.Nat.{ℕ, ◌+◌, ◌-◌, ◌≤◌, ◌<◌, zero-le}
+use mathlib.Core.Path.{◌≡◌, refl, ap, ap₂, ◌∙◌}
 use mathlib.Core.Bool.{Bool, true, false, cond}
-use native.Mathlib.Nat.{add_assoc, sub-zero}
+use native.Mathlib.Nat.{sub-zero}
 use native.Mathlib.Omega.{arith}
 use borrow.Author.Tests.{ltb-true, ltb-false, lt-ltb, le-leb, lt-leb, eqb-true, eqb-false}
 use lib.Dec.{ltb, eqb}
 use Rattle.quantity.specs.declared.Grains.{Grains}
-use Rattle.quantity.specs.Quantity.{per_kvarh, grains, capped}
+use Rattle.quantity.specs.Quantity.{grains, capped}
 use Rattle.quarter.specs.declared.Role.{Role}
 use Rattle.quarter.specs.declared.Role.TheVariants.{Active, SemiActive}
 use Rattle.quarter.specs.declared.Level.{Level}
@@ -21,60 +21,10 @@ use Rattle.quarter.specs.Reading.{tolerance, active_free, active_supply, semi_ac
 use Rattle.quarter.specs.Reading.{filed, shares, none, absolute, connected, of_role, exchanged, classified}
 use Rattle.quarter.specs.Steps.{semi_active_supply, allowance_of}
 
--- ---- active: b₁ and b₂ are the tests of U against S with the tolerance t, and with t and the free margin f
-
--- the tolerance and the free margin together
-limit : (l : Level) → capped 32 (tolerance l + active_free l) ≡ tolerance l + active_free l
+-- the tolerance and the free margin of an active point together: 32 bits hold them
+pub limit : (l : Level) → capped 32 (tolerance l + active_free l) ≡ tolerance l + active_free l
 limit Kv220 = refl
 limit Kv380 = refl
-
-module _ (l : Level) (u s t : ℕ) (b₁ : Bool) (et : t ≡ tolerance l) (e₁ : b₁ ≡ ltb u (s + t)) where
-  first : b₁ ≡ ltb u (s + tolerance l)
-  first = e₁ ∙ ap (λ (x : ℕ). ltb u (s + x)) et
-
-  pub active_paid : b₁ ≡ true → Paid ≡ active_supply l u s
-  unfolding active_supply
-  active_paid p = rw (← first, p)
-
-  module _ (f both : ℕ) (b₂ : Bool) (ef : f ≡ active_free l) (eb : both ≡ capped 32 (t + f)) (e₂ : b₂ ≡ ltb u (s + both)) where
-    second : b₂ ≡ ltb u (s + tolerance l + active_free l)
-    second = e₂ ∙ ap (ltb u) (rw (eb, et, ef, limit l) (sym (add_assoc s (tolerance l) (active_free l))))
-
-    pub active_free_lem : b₁ ≡ false → b₂ ≡ true → Free ≡ active_supply l u s
-    unfolding active_supply
-    active_free_lem p q = rw (← first, ← second, p, q)
-
-    pub active_billed : b₁ ≡ false → b₂ ≡ false → Billed ≡ active_supply l u s
-    unfolding active_supply
-    active_billed p q = rw (← first, ← second, p, q)
-
--- ---- semi-active: the tests are those of the voltages, with the free margin f
-
-module _ (l : Level) (u s f : ℕ) (b₁ : Bool) (ef : f ≡ semi_active_free l) (e₁ : b₁ ≡ ltb (u + f) s) where
-  low : b₁ ≡ helps_by_supply l u s
-  unfolding helps_by_supply
-  low = e₁ ∙ ap (λ (x : ℕ). ltb (u + x) s) ef
-
-  pub semi_active-paid : (above : Bool) → above ≡ true → b₁ ≡ true → Paid ≡ semi_active_supply l above u s
-  unfolding semi_active_supply
-  semi_active-paid above a p = rw (a, ← low, p)
-
-  module _ (b₂ : Bool) (e₂ : b₂ ≡ ltb (s + f) u) where
-    high : b₂ ≡ helps_by_take l u s
-    unfolding helps_by_take
-    high = e₂ ∙ ap (λ (x : ℕ). ltb (s + x) u) ef
-
-    pub semi_active-billed : (above : Bool) → above ≡ true → b₁ ≡ false → b₂ ≡ true → Billed ≡ semi_active_supply l above u s
-    unfolding semi_active_supply
-    semi_active-billed above a p q = rw (a, ← low, ← high, p, q)
-
-    pub semi_active-free : (above : Bool) → above ≡ true → b₁ ≡ false → b₂ ≡ false → Free ≡ semi_active_supply l above u s
-    unfolding semi_active_supply
-    semi_active-free above a p q = rw (a, ← low, ← high, p, q)
-
-pub within-band : (l : Level) (u s : ℕ) (above : Bool) → above ≡ false → Free ≡ semi_active_supply l above u s
-unfolding semi_active_supply
-within-band l u s above a = rw a
 
 -- the class and the allowance make 01's lines
 split : Class → Grains → ℕ → Shares
@@ -117,13 +67,6 @@ nothing-filed Paid = refl
 nothing-filed Free = refl
 nothing-filed Billed = refl
 nothing-filed Disconnected = refl
-
--- the two differences together are the absolute energy: neither is cut off
-pub absolute_made : (m : Metered) (take supply taken supplied w : Grains) → m.take < 2 ^ 32 → m.supply < 2 ^ 32
-    → take.0 ≡ per_kvarh * m.take → supply.0 ≡ per_kvarh * m.supply → taken.0 ≡ take.0 - supply.0
-    → supplied.0 ≡ supply.0 - take.0 → w.0 ≡ capped 64 (taken.0 + supplied.0) → w ≡ grains (absolute m)
-unfolding absolute
-absolute_made m take supply taken supplied w ht hs et es ea eb ew = ap grains (omega arith)
 
 -- what holds of a supply, and of no net energy, holds of both
 either : (role : Role) (l : Level) (m : Metered) (s : Shares) → m.take ≤ m.supply

@@ -38,6 +38,11 @@ filed Disconnected w a = shares none none none a w
 unfoldable pub level_of : ℕ → Level
 level_of number = cond (eqb number 0) Kv220 Kv380
 
+-- the bit that it is written as
+abbrev pub level_bit : Level → ℕ
+level_bit Kv220 = 0
+level_bit Kv380 = 1
+
 -- Active: "T = 100 (220 kV) or 200 (380 kV)"
 abbrev pub tolerance : Level → ℕ
 tolerance Kv220 = 100

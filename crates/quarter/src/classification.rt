@@ -22,14 +22,12 @@ pub fn classify(role: Role, level: Level, metered: Metered) -> Shares
     if take <= supply {
         return classify_supply(role, level, metered);
     }
-    let actual = metered.actual;
-    let set = metered.set;
     let mirrored = Metered {
-        lamp: metered.lamp,
         take: supply,
         supply: take,
-        actual: set,
-        set: actual,
+        actual: metered.set,
+        set: metered.actual,
+        ..metered
     };
     classify_supply(role, level, mirrored)
 }
@@ -50,22 +48,19 @@ fn classify_supply(role: Role, level: Level, metered: Metered) -> Shares
     match role {
         Role::Active => file(active(level, actual, set), energy, none),
         Role::SemiActive(band) => {
-            let class = semi_active(level, energy.exceeds(band), actual, set);
+            let class = semi_active(level, band < energy, actual, set);
             let allowance = allowance(class, band);
             file(class, energy.minus(allowance), allowance)
         }
     }
 }
 
-// The absolute energy |W|. One of the two differences is nothing, where `minus` stops.
+// The absolute energy |W|.
+#[tactic(auto, unfolding(crate::specs::Reading::absolute))]
 pub fn absolute(metered: Metered) -> Grains
     ensures { result ≡ grains (absolute metered) }
 {
-    let take = Grains::of_kvarh(metered.take);
-    let supply = Grains::of_kvarh(metered.supply);
-    let taken = take.minus(supply);
-    let supplied = supply.minus(take);
-    taken.plus(supplied)
+    Grains::of_kvarh(metered.take.abs_diff(metered.supply))
 }
 
 // Whether the energy counts at all: the run lamp says so of active points alone.
@@ -79,6 +74,7 @@ fn is_connected(role: Role, lamp: bool) -> bool
 }
 
 // The class of a supply from an active point.
+#[tactic(auto, using(crate::proofs::Supply::limit), unfolding(crate::specs::Reading::active_supply))]
 fn active(level: Level, actual: Voltage, set: Voltage) -> Class
     ensures { result ≡ active_supply level actual.0 set.0 }
 {
@@ -93,6 +89,7 @@ fn active(level: Level, actual: Voltage, set: Voltage) -> Class
 }
 
 // The class of a supply from a semi-active point, with whether it exceeds the band.
+#[tactic(auto, unfolding(crate::specs::Steps::semi_active_supply, crate::specs::Reading::helps_by_supply, crate::specs::Reading::helps_by_take))]
 fn semi_active(level: Level, above: bool, actual: Voltage, set: Voltage) -> Class
     ensures { result ≡ semi_active_supply level above actual.0 set.0 }
 {
@@ -113,12 +110,9 @@ fn semi_active(level: Level, above: bool, actual: Voltage, set: Voltage) -> Clas
 fn allowance(class: Class, band: Grains) -> Grains
     ensures { result ≡ allowance_of class band }
 {
-    let none = Grains::of(0);
     match class {
-        Class::Paid => band,
-        Class::Free => none,
-        Class::Billed => band,
-        Class::Disconnected => none,
+        Class::Paid | Class::Billed => band,
+        Class::Free | Class::Disconnected => Grains::of(0),
     }
 }
 
@@ -126,23 +120,21 @@ fn allowance(class: Class, band: Grains) -> Grains
 fn file(class: Class, energy: Grains, allowance: Grains) -> Shares
     ensures { result ≡ filed class energy allowance }
 {
-    let mut paid = Grains::of(0);
-    let mut free = Grains::of(0);
-    let mut billed = Grains::of(0);
-    let mut disconnected = Grains::of(0);
-    match class {
-        Class::Paid => paid = energy,
-        Class::Free => free = energy,
-        Class::Billed => billed = energy,
-        Class::Disconnected => disconnected = energy,
-    }
-    Shares {
-        paid,
-        free,
-        billed,
+    let none = Grains::of(0);
+    let mut shares = Shares {
+        paid: none,
+        free: none,
+        billed: none,
         allowance,
-        disconnected,
+        disconnected: none,
+    };
+    match class {
+        Class::Paid => shares.paid = energy,
+        Class::Free => shares.free = energy,
+        Class::Billed => shares.billed = energy,
+        Class::Disconnected => shares.disconnected = energy,
     }
+    shares
 }
 
 // The tolerance of an active point.

@@ -9,7 +9,6 @@ mod ranges;
 mod valuation;
 
 pub use classification::{absolute, classify};
-pub use levels::level_of;
 use quantity::{Amount, Grains};
 pub use ranges::{metered_in_range, tariffs_in_range};
 pub use valuation::value;
@@ -17,14 +16,14 @@ use voltages::Voltage;
 
 // The role that a point plays in keeping the voltage. A semi-active point has its band B with it,
 // the energy a quarter-hour that is free at any voltage.
-#[derive(Clone, Copy)]
+#[derive(Clone, Copy, Debug, PartialEq, Eq)]
 pub enum Role {
     Active,
     SemiActive(Grains),
 }
 
 // The voltage level that a point is connected to.
-#[derive(Clone, Copy)]
+#[derive(Clone, Copy, Debug, PartialEq, Eq)]
 pub enum Level {
     Kv220,
     Kv380,
@@ -32,7 +31,7 @@ pub enum Level {
 
 // A transformer of a semi-active point: the short-circuit voltage uk in 0.01 %, and the rated power
 // Sn in 0.1 MVA.
-#[derive(Clone, Copy)]
+#[derive(Clone, Copy, Debug, PartialEq, Eq)]
 pub struct Transformer {
     pub uk: u16,
     pub sn: u16,
@@ -40,7 +39,7 @@ pub struct Transformer {
 
 // What is metered in one quarter-hour: energies in kvarh, the run lamp, and the actual and the set
 // voltage.
-#[derive(Clone, Copy)]
+#[derive(Clone, Copy, Debug, PartialEq, Eq)]
 pub struct Metered {
     pub lamp: bool,
     pub take: u32,
@@ -51,7 +50,7 @@ pub struct Metered {
 
 // The five shares of document 01. Allowance is its word for the band's part of an energy above the
 // band, disconnected for energy of an active point whose lamp is out.
-#[derive(Clone, Copy)]
+#[derive(Clone, Copy, Debug, PartialEq, Eq)]
 pub struct Shares {
     pub paid: Grains,
     pub free: Grains,
@@ -61,7 +60,7 @@ pub struct Shares {
 }
 
 // The share that an energy is filed under.
-#[derive(Clone, Copy)]
+#[derive(Clone, Copy, Debug, PartialEq, Eq)]
 pub enum Class {
     Paid,
     Free,
@@ -70,7 +69,7 @@ pub enum Class {
 }
 
 // Tariffs in 0.01 CHF/Mvarh.
-#[derive(Clone, Copy)]
+#[derive(Clone, Copy, Debug, PartialEq, Eq)]
 pub struct Tariffs {
     pub payment: u32,
     pub billing: u32,
@@ -78,7 +77,7 @@ pub struct Tariffs {
 }
 
 // What a quarter-hour brings and costs, unrounded.
-#[derive(Clone, Copy)]
+#[derive(Clone, Copy, Debug, PartialEq, Eq)]
 pub struct Amounts {
     pub credit: Amount,
     pub debit: Amount,

@@ -5,6 +5,7 @@ ghost use Rattle.quarter.specs.Ranges.{tariffs_in_range, metered_in_range};
 use crate::{Metered, Tariffs};
 
 // Whether tariffs are in their range for a point of this role.
+#[tactic(auto, unfolding(crate::specs::Ranges::tariffs_in_range))]
 pub fn tariffs_in_range(semi_active: bool, tariffs: Tariffs) -> bool
     ensures { result ≡ tariffs_in_range semi_active tariffs }
 {
@@ -15,6 +16,7 @@ pub fn tariffs_in_range(semi_active: bool, tariffs: Tariffs) -> bool
 }
 
 // Whether what was metered is in its range.
+#[tactic(auto, unfolding(crate::specs::Ranges::metered_in_range))]
 pub fn metered_in_range(metered: Metered) -> bool
     ensures { result ≡ metered_in_range metered }
 {

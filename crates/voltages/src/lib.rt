@@ -7,15 +7,12 @@ ghost use Rattle.std.specs.Prelude.{◌≡◌, ◌+◌, ltb};
 ghost use Rattle.quantity.specs.Quantity.{capped};
 ghost use Rattle.voltages.specs.Voltages.{voltage};
 
-// The largest count that 32 bits hold.
-const MOST: u32 = 4_294_967_295;
-
 // A voltage, or the margin between two, in hundredths of a kilovolt.
-#[derive(Clone, Copy)]
+#[derive(Clone, Copy, Debug, PartialEq, Eq)]
 pub struct Voltage(u32);
 
 impl Voltage {
-    // A number of hundredths of a kilovolt.
+    // A number of hundredths of a kilovolt. No `From`, which would leave the unit open.
     pub fn of(count: u32) -> Voltage
         ensures { result ≡ voltage count }
     {
@@ -33,13 +30,7 @@ impl Voltage {
     pub fn plus(self, other: Voltage) -> Voltage
         ensures { result.0 ≡ capped 32 (self.0 + other.0) }
     {
-        let a = self.0;
-        let b = other.0;
-        if a > MOST - b {
-            return Voltage(MOST);
-        }
-        let sum = a + b;
-        Voltage(sum)
+        Voltage(self.0.saturating_add(other.0))
     }
 
     // Whether this voltage is below `other` with a margin added. Since the margin is added to one
@@ -47,13 +38,13 @@ impl Voltage {
     pub fn is_below(self, other: Voltage, margin: Voltage) -> bool
         ensures { result ≡ ltb self.0 (other.0 + margin.0) }
     {
-        (self.0 as u64) < (other.0 as u64) + (margin.0 as u64)
+        u64::from(self.0) < u64::from(other.0) + u64::from(margin.0)
     }
 
     // Whether this voltage is above `other` by more than a margin.
     pub fn is_above(self, other: Voltage, margin: Voltage) -> bool
         ensures { result ≡ ltb (other.0 + margin.0) self.0 }
     {
-        (other.0 as u64) + (margin.0 as u64) < (self.0 as u64)
+        u64::from(other.0) + u64::from(margin.0) < u64::from(self.0)
     }
 }

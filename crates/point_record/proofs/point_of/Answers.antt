@@ -17,16 +17,16 @@ pub overflow_cast-penalty : goal.overflow_cast-penalty
 overflow_cast-penalty c = omega (arith, c.requires 5)
 
 pub place_of-requires : goal.place_of-requires
-place_of-requires c = let f = c.requires in record { at_bound = omega arith; at_bound_2 = f 6; at_bound_3 = f 7 }
+place_of-requires c = let f = c.requires in record { at_bound = omega arith; uk_fits = f 6; sn_fits = f 7 }
 
 pub place_of-requires-2 : goal.place_of-requires-2
-place_of-requires-2 c = let f = c.requires in record { at_bound = omega arith; at_bound_2 = f 8; at_bound_3 = f 9 }
+place_of-requires-2 c = let f = c.requires in record { at_bound = omega arith; uk_fits = f 8; sn_fits = f 9 }
 
 pub place_of-requires-3 : goal.place_of-requires-3
-place_of-requires-3 c = let f = c.requires in record { at_bound = omega arith; at_bound_2 = f 10; at_bound_3 = f 11 }
+place_of-requires-3 c = let f = c.requires in record { at_bound = omega arith; uk_fits = f 10; sn_fits = f 11 }
 
 pub place_of-requires-4 : goal.place_of-requires-4
-place_of-requires-4 c = let f = c.requires in record { at_bound = omega arith; at_bound_2 = f 12; at_bound_3 = f 13 }
+place_of-requires-4 c = let f = c.requires in record { at_bound = omega arith; uk_fits = f 12; sn_fits = f 13 }
 
 pub returns : goal.returns
 returns c =
@@ -34,7 +34,7 @@ returns c =
     λ i.
     record {
       semi_active = eqb (get_or vs 0 0) 1;
-      level = c.level_of.ensures i;
+      level = c.from.ensures i;
       transformers = get_or vs 2 0;
       tariffs = record { payment = get_or vs 3 0; billing = get_or vs 4 0; penalty = get_or vs 5 0 };
       first = c.place_of.ensures i;

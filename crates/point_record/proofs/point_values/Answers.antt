@@ -17,4 +17,4 @@ overflow_cast-result-13 c = omega (arith, c.struct_known-13-1.given.1.1.1.1.1.1.
 pub returns : goal.returns
 returns c =
     let l = c in
-    ap (set (point_values l.args.point) 1) l.level_bit.ensures
+    ap (set (point_values l.args.point) 1) l.from.ensures

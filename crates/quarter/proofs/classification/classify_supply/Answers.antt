@@ -1,5 +1,7 @@
 -- `quarter::classification::classify_supply` meets its contract: each return is the law of its role and lamp.
 use mathlib.Core.Path.{◌∙◌}
+use native.Mathlib.Omega.{arith}
+use Rattle.std.proofs.lemmas.Grind.{common_steps}
 use Rattle.quarter.proofs.Supply.{unlit, lit_active, lit_semi_active}
 use Rattle.quarter.proofs.classification.classify_supply.Goals as goal
 
@@ -21,5 +23,5 @@ returns-in-SemiActive c =
     c.file-in-SemiActive.ensures
     ∙ lit_semi_active _ _ _ _ _ _ c.requires c.absolute-energy.ensures
     c.of-none.ensures c.is_connected.ensures
-    _ c.in-SemiActive.is c.if-not-is_connected.false _ c.exceeds.ensures
+    _ c.in-SemiActive.is c.if-not-is_connected.false _ (grind (arith, common_steps))
     _ c.semi_active-class.ensures _ c.allowance-allowance.ensures _ c.minus.ensures

@@ -1,5 +1,0 @@
--- `quantity::Amount::plus` meets its contract: what `sum` gives is the new count.
-use Rattle.quantity.proofs.Amount.plus.Goals as goal
-
-pub returns : goal.returns
-returns c = c.sum.ensures

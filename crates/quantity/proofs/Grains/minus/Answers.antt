@@ -1,5 +1,0 @@
--- `quantity::Grains::minus` meets its contract: what `difference` gives is the new count.
-use Rattle.quantity.proofs.Grains.minus.Goals as goal
-
-pub returns : goal.returns
-returns c = c.difference.ensures
