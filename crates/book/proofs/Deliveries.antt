@@ -44,13 +44,13 @@ pub record Given (b : Book) (l : Lent) (bytes : List ℕ) (e : Entry) (f : Resul
 module _ {b : Book} {l : Lent} {bytes : List ℕ} {e : Entry} {f : Result ℕ Refusal} {j x : List ℕ} (k : Given b l bytes e f j x) where
   -- the answer's number is the machine's
   machine_number : first (conditions (view b l) (deliver bytes)) ≡ answered f
-  machine_number = number-given b.master b.closed b.length l.journal l.index bytes f k.gave
+  machine_number = number-given b.master b.closed b.length l.journal l.index bytes f j x k.gave
 
   -- 6, 8, 9 and 10
   pub is_refused : (r : Refusal) → f ≡ Err r → outcome (number_of r) b (lent j x) ≡ called b l (deliver bytes)
   is_refused r h =
       ap (λ (g : Filing). outcome g.number b (lent g.journal g.index))
-      (refusal_given b.master b.closed b.length l.journal l.index bytes f k.gave r h)
+      (refusal_given b.master b.closed b.length l.journal l.index bytes f j x k.gave r h)
       ∙ sound_refused k.sound (deliver bytes) (number_of r) (refused-number r) (machine_number ∙ ap answered h)
 
   -- there is room for a position more
@@ -72,7 +72,7 @@ module _ {b : Book} {l : Lent} {bytes : List ℕ} {e : Entry} {f : Result ℕ Re
     is_filed : filed_given (Ok at) j x ≡ filed b.master b.length l.journal l.index bytes
     is_filed =
         ap (λ (g : Result ℕ Refusal). filed_given g j x) (sym accepts)
-        ∙ filed-given b.master b.closed b.length l.journal l.index bytes f k.gave (ap answered accepts)
+        ∙ filed-given b.master b.closed b.length l.journal l.index bytes f j x k.gave (ap answered accepts)
 
     -- and the position that it gives is that of the entry that stood
     position : at ≡ standing_place e.point e.quarter b.length l.journal

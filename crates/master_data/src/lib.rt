@@ -11,7 +11,7 @@ use header_record::{Header, header_in_range};
 use point_record::{Point, point_in_range};
 
 // The master data of a book: what the header and the points of its file say. No call changes them.
-#[derive(Clone, Copy)]
+#[derive(Clone, Copy, Debug, PartialEq, Eq)]
 pub struct MasterData {
     pub year: u16,
     pub month: u8,
@@ -57,8 +57,8 @@ fn has_points(master: MasterData) -> bool
 {
     let points = master.points;
     let count = master.count as usize;
-    for i in 0..count {
-        if !point_in_range(points[i]) {
+    for point in &points[..count] {
+        if !point_in_range(*point) {
             return false;
         }
     }

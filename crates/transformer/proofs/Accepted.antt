@@ -1,7 +1,7 @@
 -- What is known of fields that neither 14 nor 15 turns away. Assumes nothing.
 use Prim.Native.Nat.{◌*◌, ◌≤◌}
 use mathlib.Core.Path.{◌≡◌, refl, sym, ◌∙◌}
-use mathlib.Core.Bool.{Bool, true, false, not, ◌&&◌, ◌||◌}
+use mathlib.Core.Bool.{true, false, not, ◌&&◌, ◌||◌}
 use mathlib.Core.List.{[], ◌∷◌}
 use borrow.Author.Tests.{ltb-false, leb-true, not-false}
 use lib.Dec.{leb}
@@ -41,14 +41,6 @@ sheet t h =
 pub of_all : (low : LowSide) (t : DataSheet) → in_range low t ≡ true → sheet_in_range t ≡ true
 unfolding in_range
 of_all low t h = (both (energy_in_range low.active && energy_in_range low.reactive) (sheet_in_range t) h).1
-
--- all fields, as the code tests them
-pub tested : (low : LowSide) (t : DataSheet) (a b : Bool) → a ≡ energy_in_range low.active → b ≡ energy_in_range low.reactive
-    → (a && b
-    && (leb 1 t.sn && leb t.sn 5000 && leb 1 t.uk && leb t.uk 4000 && leb t.i0 4000 && leb t.copper 4000))
-    ≡ in_range low t
-unfolding in_range sheet_in_range
-tested low t a b e f = rw (e, f)
 
 -- fields that are converted
 pub record Accepted (low : LowSide) (t : DataSheet) : Type 0 where

@@ -1,9 +1,7 @@
-mod Refusing
 mod Reducing
 mod Greatest
 mod Reduced
 mod Roots
-mod Bisecting
 mod Accepted
 mod Bounds
 mod Distance
@@ -11,4 +9,3 @@ mod Near
 mod Surds
 mod Signs
 mod Fits
-mod Rounding

@@ -1,9 +1,9 @@
 -- The root is the greatest of all numbers that pass, and the one number between whose square and the next one's the radicand lies.
 -- Assumes nothing.
-use Prim.Native.Nat.{ℕ, ◌+◌, ◌*◌, ◌≤◌, ◌<◌}
+use Prim.Native.Nat.{ℕ, ◌+◌, ◌*◌, ◌/◌, ◌≤◌, ◌<◌}
 use mathlib.Core.Path.{◌≡◌, refl, sym, ap, ◌∙◌}
 use mathlib.Core.Bool.{Bool, true, false, not}
-use native.Mathlib.Nat.{le_antisymm, mul-le-mul, mul-le-mul_left, mul-le-mul_right, mul-lt-mul_of_pos_right}
+use native.Mathlib.Nat.{le_antisymm, mul-div-le, lt-mul-div-succ, mul-le-mul, mul-le-mul_left, mul-le-mul_right, mul-lt-mul_of_pos_right}
 use native.Mathlib.Omega.{arith}
 use borrow.Author.Tests.{ltb-true, ltb-false, leb-true, leb-false, le-ltb, not-true}
 use lib.Dec.{ltb, leb}
@@ -68,7 +68,7 @@ module _ (t : DataSheet) (h : 0 < t.sn) where
   root_most = bounded (root t) is_greatest.passed
 
   -- and it is the only number that does
-  pub root_is : (r : ℕ) → r * t.sn * (r * t.sn) ≤ radicand t → radicand t < (r + 1) * t.sn * ((r + 1) * t.sn) → r ≡ root t
+  root_is : (r : ℕ) → r * t.sn * (r * t.sn) ≤ radicand t → radicand t < (r + 1) * t.sn * ((r + 1) * t.sn) → r ≡ root t
   root_is r lower upper = le_antisymm (is_greatest.above r (passing r lower)) (go (leb (root t) r) refl)
     where
       go : (b : Bool) → leb (root t) r ≡ b → root t ≤ r
@@ -76,6 +76,13 @@ module _ (t : DataSheet) (h : 0 < t.sn) where
       go false e =
           let side : (r + 1) * t.sn ≤ root t * t.sn = mul-le-mul_right t.sn (omega (arith, leb-false (root t) r e)) in
           absurd (omega (arith, root_lower, mul-le-mul side side))
+
+  -- found as the root of the radicand, over Sn
+  pub root_found : (q : ℕ) → q * q ≤ radicand t → radicand t < (q + 1) * (q + 1) → q / t.sn ≡ root t
+  root_found q lower upper =
+      let side : q / t.sn * t.sn ≤ q = omega (arith, mul-div-le q t.sn) in
+      let next : q + 1 ≤ (q / t.sn + 1) * t.sn = omega (arith, lt-mul-div-succ q h) in
+      root_is (q / t.sn) (omega (arith, mul-le-mul side side)) (omega (arith, mul-le-mul next next))
 
 pub root_is_greatest : RootIsGreatest
 root_is_greatest t h = is_greatest t h

@@ -1,18 +1,17 @@
-// The number of each answer.
+// The number of each refusal.
 ghost use Rattle.std.specs.Prelude.{◌≡◌};
 ghost use Rattle.transformer.specs.Numbers.{number_of};
 
-use crate::ConversionAnswer;
+use crate::ConversionRefusal;
 
-impl ConversionAnswer {
-    // 02's number; 0 where the energy was converted.
-    pub fn number(self) -> u32
-        ensures { result ≡ number_of self }
-    {
-        match self {
-            ConversionAnswer::Converted => 0,
-            ConversionAnswer::OutOfRange => 14,
-            ConversionAnswer::Implausible => 15,
+// 02's number.
+impl From<ConversionRefusal> for u32 {
+    ghost from_gives = { λ refusal number. number ≡ number_of refusal };
+
+    fn from(refusal: ConversionRefusal) -> u32 {
+        match refusal {
+            ConversionRefusal::OutOfRange => 14,
+            ConversionRefusal::Implausible => 15,
         }
     }
 }

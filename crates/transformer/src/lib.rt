@@ -14,7 +14,7 @@ pub use conversion::convert;
 
 // What the low side metered in a quarter-hour: active energy in kWh and reactive energy in kvarh, positive
 // towards the transformer.
-#[derive(Clone, Copy)]
+#[derive(Clone, Copy, Debug, PartialEq, Eq)]
 pub struct LowSide {
     pub active: i32,
     pub reactive: i32,
@@ -22,7 +22,7 @@ pub struct LowSide {
 
 // What the transformer's data sheet has: the rated power Sn in 0.1 MVA, the short-circuit voltage uk and the
 // no-load current i0 in 0.01 %, and the copper losses at rated current in kW.
-#[derive(Clone, Copy)]
+#[derive(Clone, Copy, Debug, PartialEq, Eq)]
 pub struct DataSheet {
     pub sn: u32,
     pub uk: u32,
@@ -30,19 +30,17 @@ pub struct DataSheet {
     pub copper: u32,
 }
 
-// The answer of a conversion: done, or one of 02's refusals. Implausible is our word for 15, fields that do not go
-// together: uk below uR, or an apparent power above twice Sn.
-#[derive(Clone, Copy)]
-pub enum ConversionAnswer {
-    Converted,
+// Why nothing is converted: 02's refusals. Implausible is our word for 15, fields that do not go together: uk below
+// uR, or an apparent power above twice Sn.
+#[derive(Clone, Copy, Debug, PartialEq, Eq)]
+pub enum ConversionRefusal {
     OutOfRange,
     Implausible,
 }
 
-// Reactive energy of the high side in kvarh, for an entry: one of the two is 0, and both are beside a refusal.
-#[derive(Clone, Copy)]
+// Reactive energy of the high side in kvarh, for an entry: one of the two is 0.
+#[derive(Clone, Copy, Debug, PartialEq, Eq)]
 pub struct HighSide {
-    pub answer: ConversionAnswer,
     pub take: u32,
     pub supply: u32,
 }

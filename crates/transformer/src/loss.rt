@@ -9,7 +9,7 @@ use crate::{DataSheet, LowSide};
 
 // The loss in kvarh. With the squares of the energies, in place of those of the powers, and the root in millionths,
 // 001's formula is squares · root / (25,000,000 · Sn) + i0 · Sn / 400: one fraction, rounded once.
-pub(crate) fn loss(low: LowSide, sheet: DataSheet) -> u64
+pub(crate) fn loss(low: LowSide, sheet: DataSheet) -> u32
     requires { number low sheet ≡ 0 }
     ensures value { result ≡ loss low sheet }
     ensures upper_bound { result ≤ 250000 }
@@ -20,7 +20,7 @@ pub(crate) fn loss(low: LowSide, sheet: DataSheet) -> u64
     let no_load = 62_500 * (sheet.i0 as u64) * sn * sn;
     let under = 25_000_000 * sn;
     let over = load + no_load;
-    nearest(over, under)
+    nearest(over, under) as u32
 }
 
 // The nearest whole number of a fraction, the larger one where two are.

@@ -6,6 +6,7 @@ use crate::energies::squared_energy;
 use crate::{DataSheet, LowSide};
 
 // Whether every field is in its range.
+#[tactic(auto, unfolding(crate::specs::LowSide::in_range, crate::specs::LowSide::sheet_in_range))]
 pub(crate) fn in_range(low: LowSide, sheet: DataSheet) -> bool
     ensures { result ≡ in_range low sheet }
 {
@@ -19,6 +20,7 @@ pub(crate) fn in_range(low: LowSide, sheet: DataSheet) -> bool
             & (sheet.copper <= 4_000))
 }
 
+#[tactic(auto, unfolding(crate::specs::LowSide::energy_in_range))]
 fn energy_in_range(energy: i32) -> bool
     ensures { result ≡ energy_in_range energy }
 {

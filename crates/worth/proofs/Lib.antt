@@ -1,4 +1,5 @@
 pub mod Columns
 pub mod Demand2
+pub mod Equality
 pub mod Held
 mod Roles

@@ -12,7 +12,7 @@ mod valuation;
 use quantity::{Amount, Grains};
 
 // The figures of a quarter-hour, or of a point's whole month: energies in grains, amounts unrounded.
-#[derive(Clone, Copy)]
+#[derive(Clone, Copy, Debug, PartialEq, Eq)]
 pub struct Figures {
     pub absolute: Grains,
     pub paid: Grains,

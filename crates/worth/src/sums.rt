@@ -1,7 +1,7 @@
 // Sums of figures, column by column.
 ghost use Rattle.std.specs.Prelude.{◌≡◌, ◌+◌, ◌-◌};
 ghost use Rattle.quantity.specs.Quantity.{capped};
-ghost use Rattle.worth.specs.Figures.{figure, each, same};
+ghost use Rattle.worth.specs.Figures.{figure, each};
 
 use crate::Figures;
 
@@ -36,19 +36,5 @@ impl Figures {
             credit: self.credit.minus(other.credit),
             debit: self.debit.minus(other.debit),
         }
-    }
-
-    // Whether each figure is that of the other.
-    pub fn equals(self, other: Figures) -> bool
-        ensures { result ≡ same self other }
-    {
-        (self.absolute.count() == other.absolute.count())
-            & (self.paid.count() == other.paid.count())
-            & (self.free.count() == other.free.count())
-            & (self.billed.count() == other.billed.count())
-            & (self.allowance.count() == other.allowance.count())
-            & (self.disconnected.count() == other.disconnected.count())
-            & (self.credit.count() == other.credit.count())
-            & (self.debit.count() == other.debit.count())
     }
 }

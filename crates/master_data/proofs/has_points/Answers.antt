@@ -1,48 +1,40 @@
--- `master_data::has_points` meets its contract.
-use mathlib.Core.Bool.{false}
-use lib.ListN.{length, get_or}
-use Rattle.point_record.specs.Point.{no_point}
-use Rattle.master_data.specs.Master.{wrong_point}
-use Prim.Native.Nat.{ℕ}
-use mathlib.Core.Path.{◌≡◌, refl, sym, ap, ◌∙◌}
-use Rattle.quarter.specs.Reading.{level_of}
+-- `master_data::has_points` meets its contract. The points that it goes through are those that are counted.
+use mathlib.Core.Path.{refl, sym, ap, ◌∙◌}
+use mathlib.Core.Bool.{not}
+use mathlib.Core.List.{List}
+use native.Mathlib.Omega.{arith}
+use lib.ListN.{length, take}
+use lib.Seq.{take_all}
 use Rattle.lists.specs.Lists.{all_of}
 use Rattle.lists.proofs.Laws.{all_next, all_stop}
 use Rattle.refusals.proofs.Tests.{not_not}
-use mathlib.Core.Bool.{true}
-use native.Mathlib.Omega.{arith}
-use lib.ListN.{take}
-use Rattle.point_record.specs.Point.{point_in_range}
+use Rattle.quarter.specs.Reading.{level_of}
+use Rattle.point_record.specs.declared.Point.{Point}
+use Rattle.point_record.specs.Point.{no_point, point_in_range}
+use Rattle.master_data.specs.Master.{wrong_point}
 use Rattle.master_data.proofs.has_points.Goals as goal
 
-pub loop-i-init : goal.loop-i-init
+pub loop-point-init : goal.loop-point-init
 unfolding all_of
-loop-i-init c = (omega arith, refl)
+loop-point-init c = refl
 
 pub returns-then-not-point_in_range : goal.returns-then-not-point_in_range
 unfolding wrong_point no_point level_of
 returns-then-not-point_in_range c =
-    let s = c in
-    let l = c.loop-i in
-    let b = s.args.master in
-    let n : length b.points ≡ 8 = s.well_formed.0.1.1.1.1.1.0.1.0.1 in
-    let e : point_in_range (get_or b.points l.i no_point) ≡ false = sym c.point_in_range.ensures ∙ c.if-not-point_in_range.true in
-    rw (all_stop point_in_range no_point b.points l.i b.count (omega arith) (omega arith) e)
+    let counted = take c.args.master.count c.args.master.points in
+    let stopped = all_stop point_in_range no_point counted c.loop-point.point-index (length counted) (omega arith) (omega arith)
+    (sym c.point_in_range.ensures ∙ c.if-not-point_in_range.true) in
+    sym (not_not _ ∙ ap (all_of point_in_range) (sym (take_all (length counted) counted (omega arith))) ∙ stopped)
 
-pub loop-i-preserved : goal.loop-i-preserved
+pub loop-point-preserved : goal.loop-point-preserved
 unfolding no_point level_of
-loop-i-preserved c =
-    let s = c in
-    let l = c.loop-i in
-    let b = s.args.master in
-    let n : length b.points ≡ 8 = s.well_formed.0.1.1.1.1.1.0.1.0.1 in
-    let e : point_in_range (get_or b.points l.i no_point) ≡ true = sym c.point_in_range.ensures ∙ c.if-not-point_in_range.false in
-    (omega arith, all_next point_in_range no_point b.points l.i (omega arith) l.invariant.1 e)
+loop-point-preserved c =
+    let counted = take c.args.master.count c.args.master.points in
+    all_next point_in_range no_point counted c.loop-point.point-index (omega arith) c.loop-point.invariant
+    (sym c.point_in_range.ensures ∙ c.if-not-point_in_range.false)
 
 pub returns : goal.returns
 unfolding wrong_point
 returns c =
-    let l = c.loop-i in
-    let b = c.args.master in
-    let i : b.count ≡ l.i = omega arith in
-    sym (not_not _ ∙ ap (λ (n : ℕ). all_of point_in_range (take n b.points)) i ∙ l.invariant.1)
+    let counted = take c.args.master.count c.args.master.points in
+    sym (not_not _ ∙ ap (all_of point_in_range) (sym (take_all c.loop-point.point-index counted (omega arith))) ∙ c.loop-point.invariant)

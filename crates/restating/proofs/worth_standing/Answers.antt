@@ -5,12 +5,12 @@ use Rattle.restating.specs.Steps.{worth_standing}
 use Rattle.restating.proofs.worth_standing.Goals as goal
 
 pub worth_in-requires : goal.worth_in-requires
-worth_in-requires c = placed_found _ _ c.in-Found.is c.requires
+worth_in-requires c = placed_found _ _ c.in-Some.is c.requires
 
-pub returns-in-Nothing : goal.returns-in-Nothing
+pub returns-in-None : goal.returns-in-None
 unfolding worth_standing
-returns-in-Nothing c = c.none.ensures ∙ sym (ap (worth_standing _) c.in-Nothing.is)
+returns-in-None c = c.none.ensures ∙ sym (ap (worth_standing _) c.in-None.is)
 
-pub returns-in-Found : goal.returns-in-Found
+pub returns-in-Some : goal.returns-in-Some
 unfolding worth_standing
-returns-in-Found c = c.worth_in.ensures ∙ sym (ap (worth_standing _) c.in-Found.is)
+returns-in-Some c = c.worth_in.ensures ∙ sym (ap (worth_standing _) c.in-Some.is)

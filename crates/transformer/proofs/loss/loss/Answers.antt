@@ -47,3 +47,8 @@ nearest-requires c =
     let a = c in
     let s = ranges a.args.low a.args.sheet a.requires in
     record { under_nonzero = omega (arith, s.some); under_bound = omega (arith, s.power) }
+
+pub overflow_cast-result : goal.overflow_cast-result
+overflow_cast-result c =
+    let a = c in
+    let k = loss-found a.args.low a.args.sheet a.requires _ _ _ c.squared_energy-squares.ensures c.root.ensures.value c.nearest.ensures in record { fits = omega (arith, k.1) }

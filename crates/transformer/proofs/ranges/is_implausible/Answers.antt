@@ -8,12 +8,6 @@ use Rattle.transformer.proofs.ranges.is_implausible.Goals as goal
 pub returns : goal.returns
 returns c = implausible c.args.low c.args.sheet _ c.squared_energy.ensures
 
-pub overflow_mul-result : goal.overflow_mul-result
-overflow_mul-result c =
-    let a = c in
-    let s = sheet a.args.sheet (of_all a.args.low a.args.sheet a.requires) in
-    product_fits _ _ 4000 5000 s.voltage s.power (omega arith)
-
 pub overflow_mul-result-2 : goal.overflow_mul-result-2
 overflow_mul-result-2 c =
     let a = c in
