@@ -125,12 +125,16 @@ fn kept(word: &[u8], as_due: bool) {
 pub fn show_totals(totals: Result<Totals, Refusal>) {
     text(b" totals");
     number(u64::from(answered(&totals)));
-    let Ok(Totals { points, length }) = totals else {
-        number(0);
-        return;
-    };
-    number(length as u64);
-    for (place, figures) in points.iter().enumerate() {
+    match totals {
+        Ok(totals) => show_figures(totals),
+        Err(_) => number(0),
+    }
+}
+
+// The length, and the figures of all eight places.
+fn show_figures(totals: Totals) {
+    number(totals.length as u64);
+    for (place, figures) in totals.points.iter().enumerate() {
         show_place(place as u64, *figures);
     }
 }

@@ -68,4 +68,3 @@ impl Command {
         Some(command)
     }
 }
-

@@ -51,12 +51,12 @@ fn show_label(label: &[u8], turn: u32) {
 fn numbers_of(words: &mut Words<'_>) -> Numbers {
     let mut row = [0u64; 24];
     let mut count = 0;
-    for place in &mut row {
+    for (at, place) in row.iter_mut().enumerate() {
         let Some(number) = words.number() else {
             break;
         };
         *place = number;
-        count += 1;
+        count = at + 1;
     }
     Numbers { row, count }
 }

@@ -67,8 +67,6 @@ fn cut(text: &[u8]) -> (&[u8], &[u8]) {
 // A decimal number, in 64 bits.
 fn number_of(word: &[u8]) -> u64 {
     word.iter().fold(0u64, |number, byte| {
-        number
-            .wrapping_mul(10)
-            .wrapping_add(u64::from(*byte % 16))
+        number.wrapping_mul(10).wrapping_add(u64::from(*byte % 16))
     })
 }

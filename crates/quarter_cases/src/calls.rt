@@ -50,8 +50,9 @@ fn show(call: [u32; 9]) {
     let Some(lent) = buffer.get_mut(..length as usize) else {
         return;
     };
-    let answer =
-        reactive::reactive_classify(role, level, band, lamp, take, supply, actual, set, lent);
+    let answer = reactive::reactive_classify(
+        role, level, band, lamp, take, supply, actual, set, lent,
+    );
     io::print_decimal(STDOUT_FILENO, u64::from(answer));
     show_bytes(&buffer);
 }

@@ -7,9 +7,8 @@
 mod buffers;
 mod page;
 
-ghost use Rattle.std.specs.Prelude.{◌<◌, ◌^◌};
-
 use answers::Refusal;
+use buffers::filled;
 use call_list::run_calls;
 use libc::{STDIN_FILENO, STDOUT_FILENO};
 use page::{print_answers, say};
@@ -24,10 +23,12 @@ struct Input<'a> {
 }
 
 fn main() {
-    let mut input = buffers::input();
-    let mut journal = buffers::journal();
-    let mut index = buffers::index();
-    let mut answers = buffers::answers();
+    // A byte more than is taken, so that an input that is too long shows.
+    let mut input: [u8; 1_600_001] = filled(0);
+    // The longest journal and index that can be asked for, the index of a number that an opening has to overwrite.
+    let mut journal: [u8; 786_432] = filled(0);
+    let mut index: [u16; 32_768] = filled(65_535);
+    let mut answers: [u8; 1_600_000] = filled(0);
     let count = io::read_full(STDIN_FILENO, &mut input);
     if count > 1_600_000 {
         say(b"input too long\n");

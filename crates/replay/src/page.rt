@@ -3,6 +3,7 @@ use call_script::{room_at, size_at};
 use libc::STDOUT_FILENO;
 
 // A call of a script.
+#[derive(Clone, Copy)]
 enum Call {
     Deliver,
     TakeBack,
@@ -25,31 +26,31 @@ impl Call {
 
 // Prints the answer to each call of the script. The answers stand one after the other.
 pub(crate) fn print_answers(script: &[u8], answers: &[u8]) {
-    let mut at = 0usize;
+    let mut calls = script;
     let mut left = answers;
+    // Each call takes a byte at least, so there are no more calls than bytes.
     for _ in script {
-        let size = size_at(script, at);
+        let size = size_at(calls, 0);
         if size == 0 {
             return;
         }
-        let Some((answer, behind)) = left.split_at_checked(room_at(script, at)) else {
+        let Some((answer, behind)) = left.split_at_checked(room_at(calls, 0)) else {
             return;
         };
-        if let Some(call) = Call::of(script[at]) {
-            print_answer(call, answer);
-        }
+        print_answer(calls, answer);
         left = behind;
-        at += size;
+        calls = calls.get(size..).unwrap_or(&[]);
     }
 }
 
-// Prints a line, and for totals eight more.
-fn print_answer(call: Call, answer: &[u8]) {
-    match call {
-        Call::Deliver => print_line(b"deliver", answer),
-        Call::TakeBack => print_line(b"take_back", answer),
-        Call::Close => print_line(b"close", answer),
-        Call::Totals => print_totals(answer),
+// Prints a line for the call that these bytes begin with, and for totals eight more.
+fn print_answer(calls: &[u8], answer: &[u8]) {
+    match calls.first().copied().and_then(Call::of) {
+        Some(Call::Deliver) => print_line(b"deliver", answer),
+        Some(Call::TakeBack) => print_line(b"take_back", answer),
+        Some(Call::Close) => print_line(b"close", answer),
+        Some(Call::Totals) => print_totals(answer),
+        None => {}
     }
 }
 

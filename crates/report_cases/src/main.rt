@@ -148,11 +148,12 @@ fn show_first(label: &[u8], file: &[u8], count: usize) {
 // Entry i of the largest file: quarter after quarter, and then again as version 2, with 1,000 kvarh
 // supplied at U 22050, S 22000 and lamp 1.
 fn entry(i: usize) -> [u8; 12] {
+    let mut entry = *b"\x00\x00\x18\x00\x00\x00\x1f\x42\xb1\x12\xaf\x80";
     let quarter = i % 2_976;
-    let version_and_lamp = if i < 2_976 { 0x18 } else { 0x28 };
-    let first = (quarter / 128) as u8;
-    let second = (2 * (quarter % 128)) as u8;
-    [
-        first, second, version_and_lamp, 0, 0, 0, 0x1f, 0x42, 0xb1, 0x12, 0xaf, 0x80,
-    ]
+    entry[0] = (quarter / 128) as u8;
+    entry[1] = (2 * (quarter % 128)) as u8;
+    if 2_976 <= i {
+        entry[2] = 0x28;
+    }
+    entry
 }
