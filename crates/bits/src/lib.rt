@@ -97,8 +97,8 @@ fn load(bytes: &[u8], first: usize, count: usize) -> u64
     ensures { result ≡ field bytes.now (8 * first) (8 * count) }
 {
     let mut word = 0u64;
-    for i in 0..count {
-        word = (word << 8) | (bytes[first + i] as u64);
+    for byte in &bytes[first..first + count] {
+        word = (word << 8) | (*byte as u64);
     }
     word
 }
