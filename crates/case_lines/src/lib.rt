@@ -95,14 +95,14 @@ pub fn show_posted(posted: Posted, same_buffers: bool) {
 }
 
 fn is_of_opening(refusal: Refusal) -> bool {
-    match refusal {
+    matches!(
+        refusal,
         Refusal::TooShort
-        | Refusal::WrongHeader
-        | Refusal::WrongLength
-        | Refusal::WrongPoint
-        | Refusal::ShortIndex => true,
-        _ => false,
-    }
+            | Refusal::WrongHeader
+            | Refusal::WrongLength
+            | Refusal::WrongPoint
+            | Refusal::ShortIndex
+    )
 }
 
 // The number and the length that writing a book gave.

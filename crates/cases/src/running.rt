@@ -6,7 +6,8 @@ use crate::words::Words;
 use case_lines::{Call, show_bytes, show_index, text};
 use forged_books::{Forgery, forged};
 
-// The numbers behind a command's name, at most 24, and how many there are. Those that are left out are 0.
+// The numbers behind a command's name, at most 24, and how many there are: no heap, so the row has a fixed length.
+// Those that are left out are 0.
 #[derive(Clone, Copy)]
 pub(crate) struct Numbers {
     pub row: [u64; 24],

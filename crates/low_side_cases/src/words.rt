@@ -1,5 +1,6 @@
 // The words of the text. Blanks tell them apart; from '#' to the end of a line is a comment.
-// They are read as in `cases`: both would stand on a crate of some twenty lines, or this one on the whole book.
+// The same stands in `cases`: a crate for both would have these few lines alone, and to read them from there this
+// program would stand on the whole book.
 
 // What is left of a text.
 #[derive(Clone, Copy)]
