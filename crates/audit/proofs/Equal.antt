@@ -1,6 +1,6 @@
 -- Figures compared place by place. Assumes nothing.
 use mathlib.Core.Path.{◌≡◌, ap₂, refl}
-use mathlib.Core.Bool.{Bool, true, false≢true, ◌&&◌}
+use mathlib.Core.Bool.{true, false≢true, ◌&&◌}
 use mathlib.Core.List.{List, [], ◌∷◌}
 use Rattle.std.specs.Cmp.Lexicographic.{pointwise}
 use Rattle.refusals.proofs.Tests.{both}

@@ -5,3 +5,4 @@ pub mod Accepted
 pub mod Sums
 pub mod Rows
 pub mod Source
+pub mod Refusing

@@ -27,13 +27,15 @@ pub fn basic_charge(
 }
 
 // The tariff times the sum of K. It is divided once, behind the sum, and so nothing is rounded before.
+#[tactic(auto, unfolding(crate::specs::BasicTariff::refused, crate::specs::BasicTariff::call_refused))]
 fn charge(fixed_tariff: u32, points: u32, drawn: &[u64], fed_in: &[u64]) -> u64
     requires { refused fixed_tariff points drawn.now fed_in.now ≡ false }
     ensures { result ≡ charge fixed_tariff (point_at drawn.now fed_in.now) points }
 {
     let count = points as usize;
     let sum = sum_of_weights(&drawn[..count], &fed_in[..count]);
-    (fixed_tariff as u64) * sum / 600
+    let undivided = (fixed_tariff as u64) * sum;
+    undivided / 600
 }
 
 // The sum of K.

@@ -52,8 +52,8 @@ pub fn put_words(bytes: &mut [u8], at: usize, words: &[u64])
     requires { at + 8 * length words.now ≤ length bytes.old }
     ensures { bytes.new ≡ with_words bytes.old at words.now }
 {
-    for i in 0..words.len() {
-        put_word(bytes, at + 8 * i, words[i]);
+    for (i, word) in words.iter().enumerate() {
+        put_word(bytes, at + 8 * i, *word);
     }
 }
 
@@ -97,8 +97,8 @@ fn load(bytes: &[u8], first: usize, count: usize) -> u64
     ensures { result ≡ field bytes.now (8 * first) (8 * count) }
 {
     let mut word = 0u64;
-    for i in 0..count {
-        word = (word << 8) | (bytes[first + i] as u64);
+    for byte in &bytes[first..first + count] {
+        word = (word << 8) | (*byte as u64);
     }
     word
 }
@@ -109,10 +109,8 @@ fn store(bytes: &mut [u8], first: usize, count: usize, mut word: u64)
     requires word_bound { word < 2 ^ (8 * count) }
     ensures { bytes.new ≡ stored bytes.old (8 * first) (8 * count) word }
 {
-    let mut left = count;
-    while 0 < left {
-        left -= 1;
-        bytes[first + left] = low_byte(word);
+    for i in (0..count).rev() {
+        bytes[first + i] = low_byte(word);
         word = word >> 8;
     }
 }

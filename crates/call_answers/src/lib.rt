@@ -17,8 +17,8 @@ pub fn put_totals(output: &mut [u8], to: usize, number: u32, entries: usize, poi
 {
     let start = [number as u64, entries as u64];
     put_words(output, to, &start);
-    for i in 0..8 {
-        put_figures(output, to + 16 + 64 * i, points[i]);
+    for (i, figures) in points.iter().enumerate() {
+        put_figures(output, to + 16 + 64 * i, *figures);
     }
 }
 

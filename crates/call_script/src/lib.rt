@@ -58,7 +58,8 @@ pub fn fits(script: &[u8], bytes: usize) -> bool
 {
     let mut at = 0usize;
     let mut left = bytes;
-    // Each call takes a byte at least, so there are no more calls than bytes.
+    // Each call takes a byte at least, so there are no more calls than bytes. Where the next one begins
+    // its size says, so no iterator yields the places.
     for _ in 0..script.len() {
         let size = size_at(script, at);
         if size == 0 {

@@ -38,6 +38,7 @@ pub fn in_range(master: MasterData) -> bool
 }
 
 // Whether year, month and count of points are those of a header.
+#[tactic(auto, unfolding(crate::specs::Master::wrong_month))]
 fn has_month(master: MasterData) -> bool
     ensures { result ≡ not (wrong_month master) }
 {

@@ -2,7 +2,7 @@
 -- Assumes nothing.
 use Prim.Native.Nat.{ℕ, ◌+◌, ◌-◌, ◌<◌}
 use mathlib.Core.Path.{◌≡◌, refl, sym, ap}
-use mathlib.Core.Bool.{Bool, true, false, cond, not, ◌&&◌, false≢true}
+use mathlib.Core.Bool.{Bool, true, false, cond, not, ◌&&◌, and_comm, false≢true}
 use mathlib.Core.List.{[], ◌∷◌}
 use native.Mathlib.Nat.{mul-one, mul-zero, add-zero, add_assoc, le_of_lt}
 use native.Mathlib.Omega.{arith}
@@ -26,7 +26,6 @@ use Rattle.quarter.specs.Source.{frei_halbaktiv, outside_free_band, vergütet_ha
 use Rattle.quarter.specs.Agreement.{Said, Lawful, Agrees}
 use Rattle.quarter.proofs.Signed.{not_below, difference, differences, below-of_difference, most_of_difference}
 use Rattle.quarter.proofs.Signed.{below-difference, most_difference, supplies, takes, size}
-use Rattle.quarter.proofs.Directions.{and_comm}
 
 -- the three energies of some shares, the free one where 004 has said it
 record Energies (said : Type 0) (s : Shares) (paid free billed : ℤ) : Type 0 where

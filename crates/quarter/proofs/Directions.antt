@@ -1,8 +1,8 @@
 -- A take is classified as a supply with the two voltages exchanged.
 -- Assumes nothing.
 use Prim.Native.Nat.{ℕ, ◌+◌, ◌-◌, ◌<◌}
-use mathlib.Core.Path.{◌≡◌, refl}
-use mathlib.Core.Bool.{Bool, true, false, ◌&&◌}
+use mathlib.Core.Path.{◌≡◌}
+use mathlib.Core.Bool.{and_comm}
 use native.Mathlib.Nat.{add_comm, le_of_lt}
 use native.Mathlib.Omega.{arith}
 use borrow.Author.Tests.{lt-ltb, le-ltb, ne_eqb}
@@ -17,12 +17,6 @@ use Rattle.quarter.specs.Reading.{absolute, of_role, exchanged, classified}
 -- the quarter-hour with its directions and its voltages exchanged
 abbrev mirror : Metered → Metered
 mirror m = record { lamp = m.lamp; take = m.supply; supply = m.take; actual = m.set; set = m.actual }
-
-pub and_comm : (a b : Bool) → a && b ≡ b && a
-and_comm true true = refl
-and_comm true false = refl
-and_comm false true = refl
-and_comm false false = refl
 
 mirrored_absolute : (m : Metered) → absolute (mirror m) ≡ absolute m
 unfolding absolute

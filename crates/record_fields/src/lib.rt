@@ -15,10 +15,9 @@ pub fn read_fields(bytes: &[u8], widths: &[usize], values: &mut [u64])
     ensures small { Small widths.now values.new }
 {
     let mut at = 0;
-    for i in 0..widths.len() {
-        let width = widths[i];
-        values[i] = bits::get(bytes, at, width);
-        at += width;
+    for (i, width) in widths.iter().enumerate() {
+        values[i] = bits::get(bytes, at, *width);
+        at += *width;
     }
 }
 
@@ -29,9 +28,8 @@ pub fn write_fields(bytes: &mut [u8], widths: &[usize], values: &[u64])
     ensures { bytes.new ≡ stored_all bytes.old 0 widths.now values.now }
 {
     let mut at = 0;
-    for i in 0..widths.len() {
-        let width = widths[i];
-        bits::put(bytes, at, width, values[i]);
-        at += width;
+    for (i, width) in widths.iter().enumerate() {
+        bits::put(bytes, at, *width, values[i]);
+        at += *width;
     }
 }

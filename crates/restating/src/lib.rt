@@ -47,6 +47,7 @@ pub fn worth_of(point: Point, entry: Entry) -> Figures
 }
 
 // What the entry that stands is worth; nothing where none does.
+#[tactic(auto, unfolding(crate::specs::Steps::worth_standing, crate::specs::Steps::Placed))]
 fn worth_standing(points: [Point; 8], standing: Option<Entry>) -> Figures
     requires { Placed standing }
     ensures { result ≡ worth_standing points standing }
@@ -58,6 +59,7 @@ fn worth_standing(points: [Point; 8], standing: Option<Entry>) -> Figures
 }
 
 // The totals with figures added to those of one point, and others taken away.
+#[tactic(auto, unfolding(crate::specs::Steps::exchanged_held))]
 fn exchange(
     mut totals: [Figures; 8],
     point: u8,

@@ -1,11 +1,9 @@
--- The lines of the statement as they are made, one after the other. Assumes nothing.
-use Prim.Native.Nat.{ℕ, ◌+◌, ◌<◌, ◌≤◌}
-use mathlib.Core.Path.{◌≡◌, refl, sym, ap, ap₂, ◌∙◌}
-use mathlib.Core.List.{List, [], ◌∷◌, ◌++◌, map}
-use native.Mathlib.Numerals.{add-one}
-use native.Mathlib.Nat.{not-suc-le-zero}
-use lib.ListN.{length, get_or, set, take}
-use lib.Seq.{take_all, take-suc, take-suc-set}
+-- The lines of a statement. Assumes nothing.
+use Prim.Native.Nat.{ℕ, suc, ◌<◌}
+use mathlib.Core.Path.{◌≡◌, refl, ap₂}
+use mathlib.Core.List.{List, [], ◌∷◌, map}
+use native.Mathlib.Omega.{arith}
+use lib.ListN.{length, get_or}
 use Rattle.quantity.specs.Quantity.{rappen}
 use Rattle.worth.specs.declared.Figures.{Figures}
 use Rattle.statement_text.specs.declared.Line.{Line}
@@ -29,26 +27,10 @@ made f l a p u b w d c e =
       debit = e i;
     }
 
--- the first
-pub one_filled : (fs : List Figures) (d : Figures) → 0 < length fs → line_of (get_or fs 0 d) ∷ [] ≡ map line_of (take 1 fs)
-one_filled [] d h = absurd (not-suc-le-zero h)
-one_filled (f ∷ fs) d h = refl
-
-mapped : (fs : List Figures) (f : Figures) → map line_of fs ++ line_of f ∷ [] ≡ map line_of (fs ++ f ∷ [])
-mapped [] f = refl
-mapped (g ∷ fs) f = ap (λ (ls : List Line). line_of g ∷ ls) (mapped fs f)
-
--- one more
-pub next_filled : (i : ℕ) (ls : List Line) (l : Line) (fs : List Figures) (d : Figures) → i < length ls → i < length fs
-    → take i ls ≡ map line_of (take i fs) → l ≡ line_of (get_or fs i d) → take (i + 1) (set ls i l) ≡ map line_of (take (i + 1) fs)
-next_filled i ls l fs d h k e f =
-    ap (λ (n : ℕ). take n (set ls i l)) (add-one i)
-    ∙ take-suc-set ls i l h
-    ∙ ap₂ (λ (front : List Line) (x : Line). front ++ x ∷ []) e f
-    ∙ mapped (take i fs) (get_or fs i d)
-    ∙ ap (map line_of) (sym (ap (λ (n : ℕ). take n fs) (add-one i) ∙ take-suc fs i d k))
-
--- all of them
-pub all_filled : (i : ℕ) (ls : List Line) (fs : List Figures) → length ls ≤ i → length fs ≤ i → take i ls ≡ map line_of (take i fs)
-    → ls ≡ map line_of fs
-all_filled i ls fs h k e = sym (take_all i ls h) ∙ e ∙ ap (map line_of) (take_all i fs k)
+-- as many lines, each that of the figures in its place
+pub mapped : (fs : List Figures) (ls : List Line) → length ls ≡ length fs
+    → ((i : ℕ) (d : Figures) (e : Line) → i < length fs → get_or ls i e ≡ line_of (get_or fs i d)) → ls ≡ map line_of fs
+mapped [] [] n h = refl
+mapped [] (l ∷ ls) n h = absurd (omega arith)
+mapped (f ∷ fs) [] n h = absurd (omega arith)
+mapped (f ∷ fs) (l ∷ ls) n h = ap₂ ◌∷◌ (h 0 f l (omega arith)) (mapped fs ls (omega arith) (λ i d e k. h (suc i) d e (omega arith)))

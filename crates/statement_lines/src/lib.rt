@@ -11,12 +11,7 @@ use worth::Figures;
 pub fn lines_of(totals: [Figures; 8]) -> [Line; 8]
     ensures { result ≡ map line_of totals }
 {
-    let first = line_of(totals[0]);
-    let mut lines = [first; 8];
-    for i in 1..8 {
-        lines[i] = line_of(totals[i]);
-    }
-    lines
+    totals.map(line_of)
 }
 
 // The line of a point's totals.

@@ -58,6 +58,7 @@ impl Page {
         let mut at = start + digits(n);
         self.length = at;
         let mut rest = n;
+        // The rest decides how often this runs, and std has no iterator over the digits of a number.
         while rest >= 10 {
             at -= 1;
             self.bytes[at] = 48 + (rest % 10) as u8;
@@ -103,6 +104,7 @@ fn digits(n: u64) -> usize
 {
     let mut count = 1;
     let mut rest = n;
+    // As in `number`, the rest decides how often this runs.
     while rest >= 10 {
         count += 1;
         rest /= 10;

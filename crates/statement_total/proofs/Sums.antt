@@ -38,6 +38,14 @@ sum-next : (c : Column) (ls : List Line) (i : ℕ) → i < length ls
 sum-next c ls i h =
     ap (λ (n : ℕ). sum c (take n ls)) (add-one i) ∙ ap (sum c) (take-suc ls i no_figures h) ∙ sum_snoc c (take i ls) (get_or ls i no_figures)
 
+-- the first of lines that can be added can
+pub addable_take : (k : ℕ) (ls : List Line) → Addable ls → Addable (take k ls)
+unfolding Addable
+addable_take zero ls h i c = omega (arith, with_column (λ d. 0) c)
+addable_take (suc k) [] h i c = h i c
+addable_take (suc k) (l ∷ ls) h zero c = h zero c
+addable_take (suc k) (l ∷ ls) h (suc i) c = addable_take k ls (λ j d. h (suc j) d) i c
+
 -- Lines that can be added.
 module _ (ls : List Line) (addable : Addable ls) where
   -- a sum is below as many eighths of 2 to the power of 64 as it has lines

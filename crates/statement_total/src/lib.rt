@@ -14,11 +14,9 @@ pub fn total_of(lines: [Line; 8], count: usize) -> Line
     ensures { result ≡ total_line (take count lines) }
 {
     let mut total = NO_FIGURES;
-    for i in 0..8 {
-        if i == count {
-            return total;
-        }
-        total = plus(total, lines[i]);
+    let counted = &lines[..count.min(8)];
+    for line in counted {
+        total = plus(total, *line);
     }
     total
 }

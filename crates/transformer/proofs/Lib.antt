@@ -1,3 +1,4 @@
+pub mod Refusing
 mod Reducing
 mod Greatest
 mod Reduced

@@ -4,5 +4,5 @@ use mathlib.Core.Path.{◌≡◌}
 use Rattle.bits.specs.Fields.{field}
 use Rattle.bits.proofs.load.Given as goal
 
-abbrev pub invariant-loop-i : goal.invariant-loop-i
-invariant-loop-i l = (l.i ≤ l.count) × (l.word ≡ field l.bytes (8 * l.first) (8 * l.i))
+abbrev pub invariant-loop-byte : goal.invariant-loop-byte
+invariant-loop-byte l = (l.byte-index ≤ l.count) × (l.word ≡ field l.bytes (8 * l.first) (8 * l.byte-index))

@@ -5,9 +5,6 @@ use lib.ListN.{length}
 use Rattle.bits.proofs.Words.{Done}
 use Rattle.bits.proofs.store.Given as goal
 
-abbrev pub invariant-loop-left : goal.invariant-loop-left
-invariant-loop-left l =
-    (l.left ≤ l.count) × (length l.bytes ≡ length l.initial.bytes) × Done l.initial.bytes l.first l.count l.initial.word l.bytes l.left l.word
-
-abbrev pub decreases-loop-left : goal.decreases-loop-left
-decreases-loop-left l = l.left
+abbrev pub invariant-loop-i : goal.invariant-loop-i
+invariant-loop-i l =
+    (l.i ≤ l.count) × (length l.bytes ≡ length l.initial.bytes) × Done l.initial.bytes l.first l.count l.initial.word l.bytes l.i l.word

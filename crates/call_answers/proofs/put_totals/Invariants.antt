@@ -5,4 +5,4 @@ use Rattle.call_answers.proofs.Columns.{filled}
 use Rattle.call_answers.proofs.put_totals.Given as goal
 
 abbrev pub invariant-loop-i : goal.invariant-loop-i
-invariant-loop-i l = (l.i ≤ 8) × (l.output ≡ filled l.initial.output (l.to + 16) l.points l.i)
+invariant-loop-i l = (l.i ≤ 8) × (l.output ≡ filled l.initial.output (l.to + 16) l.fn.points l.i)

@@ -1,7 +1,5 @@
 -- `master_data::has_points` meets its contract. The points that it goes through are those that are counted.
 use mathlib.Core.Path.{refl, sym, ap, ◌∙◌}
-use mathlib.Core.Bool.{not}
-use mathlib.Core.List.{List}
 use native.Mathlib.Omega.{arith}
 use lib.ListN.{length, take}
 use lib.Seq.{take_all}
@@ -9,7 +7,6 @@ use Rattle.lists.specs.Lists.{all_of}
 use Rattle.lists.proofs.Laws.{all_next, all_stop}
 use Rattle.refusals.proofs.Tests.{not_not}
 use Rattle.quarter.specs.Reading.{level_of}
-use Rattle.point_record.specs.declared.Point.{Point}
 use Rattle.point_record.specs.Point.{no_point, point_in_range}
 use Rattle.master_data.specs.Master.{wrong_point}
 use Rattle.master_data.proofs.has_points.Goals as goal

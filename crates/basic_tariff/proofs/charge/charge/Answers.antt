@@ -1,28 +1,18 @@
 -- `basic_tariff::charge::charge` meets its contract.
 use Prim.Native.Nat.{ℕ, ◌*◌, ◌/◌}
-use mathlib.Core.Path.{◌≡◌, sym, ap, ◌∙◌}
+use mathlib.Core.Path.{◌≡◌, ap, ◌∙◌}
 use native.Mathlib.Omega.{arith}
-use Rattle.std.proofs.lemmas.List.{length-take-le}
 use Rattle.basic_tariff.specs.BasicTariff.{point_at, sum_of_K, charge}
 use Rattle.basic_tariff.proofs.Accepted.{call_of, none_of}
 use Rattle.basic_tariff.proofs.Rows.{any_pairs, sum_pairs}
 use Rattle.basic_tariff.proofs.Sums.{sum_most, product_fits}
 use Rattle.basic_tariff.proofs.charge.charge.Goals as goal
 
-pub slice_bounds-sum_of_weights-end : goal.slice_bounds-sum_of_weights-end
-slice_bounds-sum_of_weights-end c = sym (length-take-le c.args.points c.args.drawn.now (call_of _ _ _ _ c.requires).drawn)
-
-pub slice_bounds-sum_of_weights-end-2 : goal.slice_bounds-sum_of_weights-end-2
-slice_bounds-sum_of_weights-end-2 c = sym (length-take-le c.args.points c.args.fed_in.now (call_of _ _ _ _ c.requires).fed_in)
-
-pub sum_of_weights-sum-requires : goal.sum_of_weights-sum-requires
-sum_of_weights-sum-requires c =
+pub sum_of_weights-sum-requires-clause-accepted : goal.sum_of_weights-sum-requires-clause-accepted
+sum_of_weights-sum-requires-clause-accepted c =
     let a = c.args in
     let call = call_of _ _ _ _ c.requires in
-    record {
-      few = omega (arith, length-take-le a.points a.drawn.now call.drawn, call.count);
-      accepted = any_pairs a.drawn.now a.fed_in.now a.points call.drawn call.fed_in ∙ none_of _ _ _ _ c.requires;
-    }
+    any_pairs a.drawn.now a.fed_in.now a.points call.drawn call.fed_in ∙ none_of _ _ _ _ c.requires
 
 sum : (c : goal.After-sum_of_weights-sum) → c.sum_of_weights-sum.result ≡ sum_of_K (point_at c.args.drawn.now c.args.fed_in.now) c.args.points
 sum c =
@@ -30,8 +20,8 @@ sum c =
     let call = call_of _ _ _ _ c.requires in
     c.sum_of_weights-sum.ensures ∙ sum_pairs a.drawn.now a.fed_in.now a.points call.drawn call.fed_in
 
-pub overflow_mul-result : goal.overflow_mul-result
-overflow_mul-result c =
+pub overflow_mul-undivided : goal.overflow_mul-undivided
+overflow_mul-undivided c =
     let a = c.args in
     let call = call_of _ _ _ _ c.requires in
     product_fits a.fixed_tariff c.sum_of_weights-sum.result call.tariff
