@@ -4,10 +4,12 @@
 
 use answers::{Refusal, answered};
 use book::{Book, Reply, Totals};
-use libc::STDOUT_FILENO;
 use opening::void;
 use posting::{Posted, TurnedDown};
 use worth::Figures;
+
+// Standard output, by its number: no crate may list `libc`, which names it.
+const STDOUT_FILENO: i32 = 1;
 
 // Bytes as they are.
 pub fn text(text: &[u8]) {

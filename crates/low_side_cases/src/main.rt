@@ -6,10 +6,14 @@
 mod numbers;
 mod words;
 
-use libc::{STDIN_FILENO, STDOUT_FILENO};
 use numbers::{signed, size};
 use transformer::{DataSheet, HighSide, LowSide, convert};
 use words::Words;
+
+// Standard input and standard output, by their numbers: no crate may list `libc`, which names them.
+const STDIN_FILENO: i32 = 0;
+
+const STDOUT_FILENO: i32 = 1;
 
 fn main() {
     let mut input = io::large_buffer();

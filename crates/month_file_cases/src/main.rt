@@ -11,9 +11,11 @@ ghost use Rattle.std.specs.Prelude.{◌+◌, ◌^◌, ◌≤◌, ◌<◌};
 use bits::put;
 use entry_record::{decode_entry, encode_entry};
 use header_record::{decode_header, encode_header};
-use libc::STDOUT_FILENO;
 use point_record::{decode_point, encode_point};
 use quarter::{Level, Transformer};
+
+// Standard output, by its number: no crate may list `libc`, which names it.
+const STDOUT_FILENO: i32 = 1;
 
 const HEADER: [u8; 7] = *b"BE\x7e\x82\x20\x00\x04";
 

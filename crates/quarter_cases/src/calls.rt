@@ -1,7 +1,6 @@
 // The C call. A line has the number answered and then the 48 bytes of a buffer, each 255 before
 // the call, of which a front part was lent.
-use crate::print::{byte, end_of_line};
-use libc::STDOUT_FILENO;
+use crate::print::{STDOUT_FILENO, byte, end_of_line};
 
 // Role, level, band, lamp, take, supply, actual and set voltage, and the length of the lent slice.
 const CALLS: [[u32; 9]; 25] = [

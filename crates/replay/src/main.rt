@@ -10,8 +10,10 @@ mod page;
 use answers::Refusal;
 use buffers::filled;
 use call_list::run_calls;
-use libc::{STDIN_FILENO, STDOUT_FILENO};
-use page::{print_answers, say};
+use page::{STDOUT_FILENO, print_answers, say};
+
+// Standard input, by its number: no crate may list `libc`, which names it.
+const STDIN_FILENO: i32 = 0;
 
 // What standard input holds.
 #[derive(Clone, Copy)]

@@ -1,6 +1,8 @@
 // The lines that are printed for the calls of a script.
 use call_script::{room_at, size_at};
-use libc::STDOUT_FILENO;
+
+// Standard output, by its number: no crate may list `libc`, which names it.
+pub(crate) const STDOUT_FILENO: i32 = 1;
 
 // A call of a script.
 #[derive(Clone, Copy)]
