@@ -4,7 +4,11 @@ use mathlib.Core.Path.{◌≡◌, refl, sym, ◌∙◌}
 use mathlib.Core.Bool.{Bool, true, false, cond, not}
 use mathlib.Core.List.{List}
 use borrow.Author.Tests.{eqb-true, not-true, not-false}
-use Rattle.std.specs.Prelude.{None, Some}
+use Rattle.std.specs.Prelude.{None, Some, Result, Ok, Err}
+use Rattle.std.specs.Result.{result_unwrap_or}
+use Rattle.answers.specs.declared.Refusal.{Refusal}
+use Rattle.answers.specs.Numbers.{answered}
+use Rattle.machine.specs.Machine as machine
 use Rattle.worth.specs.declared.Figures.{Figures}
 use lib.Dec.{eqb}
 use Rattle.refusals.specs.Refusals.{first}
@@ -13,7 +17,8 @@ use Rattle.machine.specs.Machine.{Change, deliver, take_back, close, conditions}
 use Rattle.index.specs.Index.{short_index}
 use Rattle.audit.specs.Audit.{afresh, all_same}
 use Rattle.book.specs.declared.Book.{Book}
-use Rattle.book.specs.Library.{Lent, view, unsound, guards, number, outcome, accepted, called, totals_given}
+use Rattle.book.specs.declared.Totals.{Totals}
+use Rattle.book.specs.Library.{Lent, view, unsound, guards, number, outcome, accepted, called, no_totals, totals_answer, totals_given}
 use Rattle.book.proofs.Sound.{Sound, sound, not_short, not_unsound, judged_none, judged_some}
 
 -- where none of the numbers before a call's own applies, the book is sound
@@ -95,3 +100,9 @@ pub sound_given : {b : Book} {l : Lent} → Sound b l
     → totals_given b l ≡ record { number = 0; figures = b.totals; entries = b.length }
 unfolding totals_given
 sound_given {b} {l} s = rw (unguarded s)
+
+-- an answer of totals, by its number and what it has beside it
+pub taken_apart : (r : Result Totals Refusal) → let t = result_unwrap_or r no_totals in
+    ◌≡◌ {A = machine.Answer} (record { number = answered r; figures = t.points; entries = t.length }) (totals_answer r)
+taken_apart (Ok t) = refl
+taken_apart (Err r) = refl

@@ -1,5 +1,4 @@
 mod Asking
 mod Lent
-mod LowSide
 mod QuarterHour
 mod Shares

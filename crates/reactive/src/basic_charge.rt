@@ -6,7 +6,7 @@ use basic_tariff::basic_charge;
 
 // Answers 0 and puts the charge into the number; or 16 for an argument out of range, a slice with fewer places than
 // points or a point that drew and fed in nothing, and leaves it as it is.
-#[tactic(auto, using(crate::proofs::Lent::put, crate::proofs::Lent::kept), unfolding(crate::specs::BasicCharge::called, basic_tariff::specs::BasicTariff::charged))]
+#[tactic(auto, using(crate::proofs::Lent::put, crate::proofs::Lent::kept, basic_tariff::proofs::Refusing::refused_number), unfolding(crate::specs::BasicCharge::called, basic_tariff::specs::BasicTariff::charged))]
 pub fn reactive_basic_charge(
     fixed_tariff: u32,
     points: u32,
@@ -17,8 +17,8 @@ pub fn reactive_basic_charge(
     ensures { (result, charge.new) ≡ called fixed_tariff points drawn.now fed_in.now charge.old }
 {
     match basic_charge(fixed_tariff, points, drawn, fed_in) {
-        Ok(made) => {
-            *charge = made;
+        Ok(rappen) => {
+            *charge = rappen;
             0
         }
         Err(refusal) => u32::from(refusal),

@@ -6,6 +6,7 @@ use transformer::{DataSheet, LowSide, convert};
 
 // Answers 0 and puts take and supply of the high side into the two numbers; or 14 for an argument out of range, or 15
 // for arguments that do not go together, and leaves both as they are.
+#[tactic(auto, using(crate::proofs::Lent::put, crate::proofs::Lent::kept, transformer::proofs::Refusing::refused_number), unfolding(crate::specs::LowSide::called, transformer::specs::LowSide::converted))]
 pub fn reactive_low_side(
     active: i32,
     reactive: i32,

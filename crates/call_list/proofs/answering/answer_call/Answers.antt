@@ -1,6 +1,10 @@
 -- `call_list::answering::answer_call` meets its contract.
+use mathlib.Core.Path.{◌≡◌, sym, ap, ◌∙◌}
 use native.Mathlib.Omega.{arith}
-use Rattle.book.specs.Library.{lent}
+use borrow.Author.Rules.{rules}
+use Rattle.std.specs.Result.{result_unwrap_or}
+use Rattle.book.specs.Library.{lent, no_totals}
+use Rattle.book.proofs.Numbers.{taken_apart}
 use Rattle.call_script.specs.Script.{call_at}
 use Rattle.call_script.proofs.Scripts.{whole-inside, whole_kind, call_totals}
 use Rattle.call_script.proofs.Fitting.{room-totals, room_other}
@@ -16,10 +20,12 @@ put_totals-requires c = omega (arith, room-totals c.args.script.now c.args.at c.
 pub returns-then-script-at-eq3 : goal.returns-then-script-at-eq3
 returns-then-script-at-eq3 c =
     let asked = call_totals c.args.script.now c.args.at c.if-script-at-eq3.true in
-    totals_left _ _ _ _ _ asked _ _ c.totals-totals.ensures (rw c.number.ensures at c.put_totals.ensures)
+    let totals : c.unwrap_or-totals.result ≡ result_unwrap_or c.totals-given.result no_totals = c.unwrap_or-totals.ensures ∙ ap (result_unwrap_or c.totals-given.result) c.none.ensures in
+    totals_left _ _ _ _ _ asked _ _ (taken_apart c.totals-given.result ∙ c.totals-given.ensures)
+    (rw (c.answered.ensures, totals) at c.put_totals.ensures)
 
-pub make_change-reply-requires : goal.make_change-reply-requires
-make_change-reply-requires c =
+pub make_change-requires : goal.make_change-requires
+make_change-requires c =
     let asked = c.requires.at_nonzero in
     record { at_nonzero = asked; at_bound = omega (arith, whole_kind _ _ asked) }
 
@@ -36,4 +42,4 @@ returns c =
     let other = c.if-script-at-eq3.false in
     let eight = room_other a.script.now a.at (omega arith) in
     change_left a.book (lent a.journal.now a.index.now) (call_at a.script.now a.at) a.output.now a.to eight _ _
-    c.make_change-reply.ensures (rw c.number-2.ensures at c.put_words.ensures)
+    c.make_change.ensures (rw c.answered-2.ensures at c.put_words.ensures)
