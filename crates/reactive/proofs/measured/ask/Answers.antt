@@ -1,6 +1,9 @@
 -- `reactive::measured::ask` meets its contract.
-use mathlib.Core.Path.{refl}
+use mathlib.Core.Path.{◌≡◌, refl, ap, ◌∙◌}
 use native.Mathlib.Omega.{arith}
+use Rattle.std.specs.Result.{result_unwrap_or}
+use Rattle.book.specs.Library.{no_totals}
+use Rattle.book.proofs.Numbers.{taken_apart}
 use Rattle.reactive.specs.Measured.{asked}
 use Rattle.reactive.proofs.Asking.{length-asked, asked-next, asked_all}
 use Rattle.reactive.proofs.measured.ask.Goals as goal
@@ -11,17 +14,16 @@ loop-init c = (omega arith, refl)
 
 pub put_totals-requires : goal.put_totals-requires
 put_totals-requires c =
-    let s = c in
     let l = c.loop in
-    omega (arith, s.requires, length-asked _ _ _ s.requires l.counter _ l.invariant.1)
+    omega (arith, c.requires, length-asked _ _ _ c.requires l.counter _ l.invariant.1)
 
 pub loop-preserved : goal.loop-preserved
 loop-preserved c =
-    let s = c in
     let l = c.loop in
-    let put = c in (
+    let totals : c.unwrap_or-totals.result ≡ result_unwrap_or c.totals-given.result no_totals = c.unwrap_or-totals.ensures ∙ ap (result_unwrap_or c.totals-given.result) c.none.ensures in (
       omega arith,
-      asked-next _ _ _ s.requires l.counter _ _ _ l.invariant.1 c.totals-totals.ensures (rw put.number.ensures at put.put_totals.ensures),
+      asked-next _ _ _ c.requires l.counter _ _ _ l.invariant.1 (taken_apart c.totals-given.result ∙ c.totals-given.ensures)
+      (rw (c.answered.ensures, totals) at c.put_totals.ensures),
     )
 
 pub shape_of-output : goal.shape_of-output
