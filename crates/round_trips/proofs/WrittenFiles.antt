@@ -11,9 +11,8 @@ use Rattle.refusals.proofs.Tests.{both}
 use Rattle.lists.specs.Lists.{all_of, any_below, places_below}
 use Rattle.lists.proofs.Laws.{all_at}
 use Rattle.header_record.specs.declared.Header.{Header}
-use Rattle.header_record.specs.declared.HeaderAnswer.TheVariants as header-answer
+use Rattle.std.specs.Prelude.{Some}
 use Rattle.point_record.specs.declared.Point.{Point}
-use Rattle.point_record.specs.declared.PointAnswer.TheVariants as point-answer
 use Rattle.header_record.specs.Header.{header_in_range, decoded_header, wrong_header}
 use Rattle.point_record.specs.Point.{point_in_range, decoded_point, encoded_point, point_in, wrong_point, no_point}
 use Rattle.header_record.proofs.Laws.{header_reads, header_round_trip}
@@ -26,7 +25,7 @@ use Rattle.writing.proofs.PointsWritten.{length-points}
 
 -- the bytes of a header in range are read as it, and are 7
 header_read : (h : Header) → header_in_range h ≡ true
-    → (decoded_header (written_header h) ≡ header-answer.Read h) × (length (written_header h) ≡ 7)
+    → (decoded_header (written_header h) ≡ Some h) × (length (written_header h) ≡ 7)
 unfolding written_header
 header_read h t =
     let d = (header_round_trip.decodes h (replicate 7 0) t refl).1 in
@@ -37,7 +36,7 @@ abbrev point : Point → List ℕ
 point p = (encoded_point p (replicate 21 0)).1
 
 -- those of one in range are read as it, and are 21
-point_read : (p : Point) → point_in_range p ≡ true → (decoded_point (point p) ≡ point-answer.Read p) × (length (point p) ≡ 21)
+point_read : (p : Point) → point_in_range p ≡ true → (decoded_point (point p) ≡ Some p) × (length (point p) ≡ 21)
 point_read p t =
     let d = (point_round_trip.decodes p (replicate 21 0) t refl).1 in
     (d, (point_round_trip.accepts p (point p) d).1)

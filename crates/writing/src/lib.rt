@@ -15,12 +15,7 @@ use header_record::{Header, encode_header};
 use point_record::{Point, encode_point};
 
 // Writes the book as a month file into the first bytes of the output, and gives the file's length.
-pub fn write(
-    book: Book,
-    journal: &[u8],
-    index: &[u16],
-    output: &mut [u8],
-) -> Result<usize, Refusal>
+pub fn write(book: Book, journal: &[u8], index: &[u16], output: &mut [u8]) -> Result<usize, Refusal>
     ensures { write_given result output.new ≡ writing book (lent journal.now index.now) output.old }
 {
     judge(book, journal, index)?;

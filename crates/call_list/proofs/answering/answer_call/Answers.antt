@@ -24,8 +24,8 @@ returns-then-script-at-eq3 c =
     totals_left _ _ _ _ _ asked _ _ (taken_apart c.totals-given.result ∙ c.totals-given.ensures)
     (rw (c.answered.ensures, totals) at c.put_totals.ensures)
 
-pub make_change-requires : goal.make_change-requires
-make_change-requires c =
+pub make_change-answer-requires : goal.make_change-answer-requires
+make_change-answer-requires c =
     let asked = c.requires.at_nonzero in
     record { at_nonzero = asked; at_bound = omega (arith, whole_kind _ _ asked) }
 
@@ -42,4 +42,4 @@ returns c =
     let other = c.if-script-at-eq3.false in
     let eight = room_other a.script.now a.at (omega arith) in
     change_left a.book (lent a.journal.now a.index.now) (call_at a.script.now a.at) a.output.now a.to eight _ _
-    c.make_change.ensures (rw c.answered-2.ensures at c.put_words.ensures)
+    c.make_change-answer.ensures (rw c.answered-2.ensures at c.put_words.ensures)

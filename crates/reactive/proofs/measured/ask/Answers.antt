@@ -23,7 +23,7 @@ loop-preserved c =
     let totals : c.unwrap_or-totals.result ≡ result_unwrap_or c.totals-given.result no_totals = c.unwrap_or-totals.ensures ∙ ap (result_unwrap_or c.totals-given.result) c.none.ensures in (
       omega arith,
       asked-next _ _ _ c.requires l.counter _ _ _ l.invariant.1 (taken_apart c.totals-given.result ∙ c.totals-given.ensures)
-      (rw (c.answered.ensures, totals) at c.put_totals.ensures),
+          (rw (c.answered.ensures, totals) at c.put_totals.ensures),
     )
 
 pub shape_of-output : goal.shape_of-output

@@ -27,4 +27,4 @@ returns c =
     let o = t in
     accepted _ o.args.shares.now _ _ o.of.ensures o.of-2.ensures _ _
     t.point_in_range.ensures t.metered_in_range.ensures _ i.refusal-number.ensures i.if-number-ne0.false
-    _ _ _ k.classify.ensures k.role_of.ensures k.from.ensures _ c.store.ensures
+    _ _ _ k.classify.ensures k.role_of.ensures k.from-level.ensures _ c.store.ensures
