@@ -7,7 +7,8 @@ ghost use Rattle.calendar.specs.Calendar.{leap, days_of, quarters_of};
 // The most quarter-hours that a month can have: October's.
 pub const MOST_QUARTERS: usize = 2_980;
 
-// The quarter-hours of a month, 96 a day but where the clock changes; 0 where there is no such month.
+// The quarter-hours of a month, 96 a day but where the clock changes; 0 where there is no such month, as in the
+// definition `quarters_of`: no quarter is below it.
 #[tactic(auto, unfolding(crate::specs::Calendar::quarters_of))]
 pub fn quarters_of_month(year: u16, month: u8) -> u16
     ensures { result ≡ quarters_of year month }

@@ -7,7 +7,7 @@ ghost use Rattle.std.specs.Prelude.{◌≡◌, ◌<◌, ◌≤◌, leb, length};
 ghost use Rattle.call_script.specs.Script.{delivery_size, size_at, call_at, calls};
 ghost use Rattle.call_script.specs.Room.{room, room_of};
 
-// How many bytes the whole call at `at` takes; 0 where there is none.
+// How many bytes the whole call at `at` takes; 0 where there is none, as in the definition `size_at`: no call takes none.
 pub fn size_at(script: &[u8], at: usize) -> usize
     ensures { result ≡ size_at script.now at }
 {

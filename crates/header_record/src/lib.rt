@@ -78,6 +78,7 @@ fn header_of(values: [u64; 6]) -> Header
 
 // Writes the header into 7 bytes; or answers false, and leaves the bytes as they are, where a field
 // is out of range or there are not 7 bytes.
+// A bool and no Result: there is nothing to hand back but whether it was written.
 pub fn encode_header(header: Header, bytes: &mut [u8]) -> bool
     ensures { (result, bytes.new) ≡ encoded_header header bytes.old }
 {

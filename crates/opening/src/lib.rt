@@ -64,6 +64,7 @@ fn read_points(file: &[u8], count: usize) -> Option<[Point; 8]>
     ensures { result ≡ read_points count file.now }
 {
     let mut points = [no_point(); 8];
+    // By its place, which is the point's and tells where its bytes are.
     for i in 0..count {
         let start = 7 + 21 * i;
         let end = start + 21;

@@ -132,6 +132,7 @@ fn place_of(values: [u64; 14], at: usize) -> Transformer
 
 // Writes the point into 21 bytes; or answers false, and leaves the bytes as they are, where a field
 // breaks a rule or there are not 21 bytes.
+// A bool and no Result: there is nothing to hand back but whether it was written.
 pub fn encode_point(point: Point, bytes: &mut [u8]) -> bool
     ensures { (result, bytes.new) ≡ encoded_point point bytes.old }
 {

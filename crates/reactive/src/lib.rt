@@ -1,5 +1,6 @@
 // What the members' C program calls: functions on plain numbers and slices, each thin over the crate that does the
-// work. The crate `reactive_c` exports them under these names, and `include/reactive.h` declares them.
+// work. Numbers stand for kinds and refusals here, and slices lie beside one another, for the C interface. The crate
+// `reactive_c` exports the functions under these names, and `include/reactive.h` declares them.
 #![tactic(auto)]
 
 mod basic_charge;
