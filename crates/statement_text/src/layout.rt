@@ -6,8 +6,8 @@ ghost use Rattle.statement_text.specs.Text.{refused_text, month_text, columns_te
 
 use crate::{Line, Page, Statement};
 
-// The page that is printed for a statement, or for a refusal by its number: that is what is printed, and this crate knows
-// no call whose refusals it could name, or for the number of a refusal.
+// The page that is printed for a statement, or for a refusal by its number: this crate knows no call whose refusals it
+// could name.
 pub fn text_of(statement: Result<Statement, u32>) -> Page
     ensures value { result ≡ page_of (text_of statement) }
     ensures length_in_bounds { result.length ≤ length result.bytes }
