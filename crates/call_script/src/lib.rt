@@ -7,6 +7,10 @@ ghost use Rattle.std.specs.Prelude.{◌≡◌, ◌<◌, ◌≤◌, leb, length};
 ghost use Rattle.call_script.specs.Script.{delivery_size, size_at, call_at, calls};
 ghost use Rattle.call_script.specs.Room.{room, room_of};
 
+mod kinds;
+
+pub use kinds::{CallKind, UnknownCall};
+
 // How many bytes the whole call at `at` takes; 0 where there is none, as in the definition `size_at`: no call takes none.
 pub fn size_at(script: &[u8], at: usize) -> usize
     ensures { result ≡ size_at script.now at }
@@ -14,14 +18,13 @@ pub fn size_at(script: &[u8], at: usize) -> usize
     if script.len() <= at {
         return 0;
     }
-    let kind = script[at];
-    if kind == 0 {
-        return delivery_size(script, at);
+    match CallKind::try_from(script[at]) {
+        Ok(CallKind::Deliver) => delivery_size(script, at),
+        Ok(CallKind::TakeBack) => 1,
+        Ok(CallKind::Close) => 1,
+        Ok(CallKind::Totals) => 1,
+        Err(_) => 0,
     }
-    if kind <= 3 {
-        return 1;
-    }
-    0
 }
 
 // How many bytes the delivery at `at` takes; 0 where the script ends before it.
@@ -46,10 +49,14 @@ pub fn room_at(script: &[u8], at: usize) -> usize
     ensures value { result ≡ room (call_at script.now at) }
     ensures upper_bound { result ≤ 528 }
 {
-    if script[at] == 3 {
-        return 528;
+    match CallKind::try_from(script[at]) {
+        Ok(CallKind::Deliver) => 8,
+        Ok(CallKind::TakeBack) => 8,
+        Ok(CallKind::Close) => 8,
+        Ok(CallKind::Totals) => 528,
+        // No whole call begins so.
+        Err(_) => 0,
     }
-    8
 }
 
 // Whether the answers to all calls of the script fit into so many bytes.

@@ -1,30 +1,8 @@
 // The lines that are printed for the calls of a script.
-use call_script::{room_at, size_at};
+use call_script::{CallKind, room_at, size_at};
 
 // Standard output, by its number: no crate may list `libc`, which names it.
 pub(crate) const STDOUT_FILENO: i32 = 1;
-
-// A call of a script.
-#[derive(Clone, Copy)]
-enum Call {
-    Deliver,
-    TakeBack,
-    Close,
-    Totals,
-}
-
-impl Call {
-    // The call that a script's byte begins.
-    fn of(kind: u8) -> Option<Call> {
-        match kind {
-            0 => Some(Call::Deliver),
-            1 => Some(Call::TakeBack),
-            2 => Some(Call::Close),
-            3 => Some(Call::Totals),
-            _ => None,
-        }
-    }
-}
 
 // Prints the answer to each call of the script. The answers stand one after the other.
 pub(crate) fn print_answers(script: &[u8], answers: &[u8]) {
@@ -47,12 +25,15 @@ pub(crate) fn print_answers(script: &[u8], answers: &[u8]) {
 
 // Prints a line for the call that these bytes begin with, and for totals eight more.
 fn print_answer(calls: &[u8], answer: &[u8]) {
-    match calls.first().copied().and_then(Call::of) {
-        Some(Call::Deliver) => print_line(b"deliver", answer),
-        Some(Call::TakeBack) => print_line(b"take_back", answer),
-        Some(Call::Close) => print_line(b"close", answer),
-        Some(Call::Totals) => print_totals(answer),
-        None => {}
+    let Some(byte) = calls.first() else {
+        return;
+    };
+    match CallKind::try_from(*byte) {
+        Ok(CallKind::Deliver) => print_line(b"deliver", answer),
+        Ok(CallKind::TakeBack) => print_line(b"take_back", answer),
+        Ok(CallKind::Close) => print_line(b"close", answer),
+        Ok(CallKind::Totals) => print_totals(answer),
+        Err(_) => {}
     }
 }
 
