@@ -87,7 +87,7 @@ fn show_amounts(amounts: Amounts) {
     last_figure(amounts.debit.count());
 }
 
-// The role that a number stands for.
+// The role that a number stands for, written anew: a case takes nothing from what it tests.
 fn role_of(role: u32, band: u32) -> Role {
     if role == 0 {
         return Role::Active;

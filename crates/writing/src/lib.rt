@@ -63,6 +63,7 @@ fn write_points(points: [Point; 8], count: usize, output: &mut [u8])
     requires output_len { length output.old ≡ 21 * count }
     ensures { output.new ≡ written_points (take count points) }
 {
+    // By its place, which is the point's and tells where its bytes go.
     for i in 0..count {
         let start = 21 * i;
         let end = start + 21;
