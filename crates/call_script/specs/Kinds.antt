@@ -14,4 +14,4 @@ byte_of Totals = 3
 -- what a byte is read as: the kind whose byte it is, or no kind, past them all
 abbrev pub IsKindOf : ℕ → Result CallKind UnknownCall → Type 0
 IsKindOf byte (Ok kind) = byte ≡ byte_of kind
-IsKindOf byte (Err _) = 3 < byte
+IsKindOf byte (Err unknown) = (3 < byte) × (unknown.0 ≡ byte)

@@ -34,7 +34,7 @@ pub fn open(file: &[u8], index: &mut [u16]) -> Reply
     }
 }
 
-// The fresh book, or the first refusal; it leaves the index as it is.
+// The fresh book, or the first refusal, beside which the index is as it was.
 fn try_open(file: &[u8], index: &mut [u16]) -> Result<Book, Refusal>
     ensures answer_value { answered result ≡ opening_number file.now index.old }
     ensures book_value { handed_back result ≡ opened_book file.now index.old }

@@ -29,4 +29,4 @@ returns-in-Ok-Close c =
     record { value = room_other _ _ (omega (arith, byte)); upper_bound = omega arith }
 
 pub returns-in-Err : goal.returns-in-Err
-returns-in-Err c = absurd (omega (arith, whole_kind _ _ c.requires, c.in-Err.ensures))
+returns-in-Err c = absurd (omega (arith, whole_kind _ _ c.requires, c.in-Err.ensures.0))

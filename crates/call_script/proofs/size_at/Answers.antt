@@ -14,7 +14,7 @@ returns-in-Ok-Deliver c =
     c.delivery_size.ensures ∙ size_delivery _ _ (omega arith) byte
 
 pub returns-in-Err : goal.returns-in-Err
-returns-in-Err c = size_other _ _ (omega arith) c.in-Err.ensures
+returns-in-Err c = size_other _ _ (omega arith) c.in-Err.ensures.0
 
 pub returns-in-Ok-TakeBack : goal.returns-in-Ok-TakeBack
 returns-in-Ok-TakeBack c =

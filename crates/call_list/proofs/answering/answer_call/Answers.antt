@@ -29,7 +29,7 @@ pub bounds-script-at : goal.bounds-script-at
 bounds-script-at c = whole-inside _ _ c.requires.at_nonzero
 
 pub returns-in-Err : goal.returns-in-Err
-returns-in-Err c = absurd (omega (arith, whole_kind _ _ c.requires.at_nonzero, c.in-Err.ensures))
+returns-in-Err c = absurd (omega (arith, whole_kind _ _ c.requires.at_nonzero, c.in-Err.ensures.0))
 
 pub overflow_add-start : goal.overflow_add-start
 overflow_add-start c =
