@@ -1,13 +1,14 @@
 -- The number of a call from its conditions. Assumes nothing.
 use Prim.Native.Nat.{ℕ, ◌<◌}
-use mathlib.Core.Path.{◌≡◌, refl, sym, ◌∙◌}
-use mathlib.Core.Bool.{Bool, true, false, cond, not}
+use mathlib.Core.Path.{◌≡◌, refl, sym, ap, ◌∙◌}
+use mathlib.Core.Bool.{Bool, true, false, cond}
 use mathlib.Core.List.{List}
 use borrow.Author.Tests.{eqb-true, not-true, not-false}
-use Rattle.std.specs.Prelude.{None, Some, Result, Ok, Err}
+use Rattle.std.specs.Prelude.{None, Some, Result, Ok, Err, ⊤}
 use Rattle.std.specs.Result.{result_unwrap_or}
 use Rattle.answers.specs.declared.Refusal.{Refusal}
-use Rattle.answers.specs.Numbers.{answered}
+use Rattle.answers.specs.Numbers.{number_of, answered}
+use Rattle.answers.proofs.Refusing.{refused-number}
 use Rattle.machine.specs.Machine as machine
 use Rattle.worth.specs.declared.Figures.{Figures}
 use lib.Dec.{eqb}
@@ -51,6 +52,13 @@ called-refused b l c n p h = rw (h, refuse p)
 pub guard_refused : (b : Book) (l : Lent) (c : Change) (n : ℕ) → 0 < n → n ≡ first (guards b l) → outcome n b l ≡ called b l c
 unfolding number
 guard_refused b l c n p h = called-refused b l c n p (decided (guards b l) (conditions (view b l) c) n p (sym h))
+
+-- so it does when the judgement's refusal is handed on
+pub judged_refused : (b : Book) (l : Lent) (c : Change) {a handed : Result ⊤ Refusal} {r : Refusal} → a ≡ Err r
+    → answered a ≡ first (guards b l) → handed ≡ Err r → outcome (answered handed) b l ≡ called b l c
+judged_refused b l c {r = r} is judged same =
+    ap (λ (h : Result ⊤ Refusal). outcome (answered h) b l) same
+    ∙ guard_refused b l c (number_of r) (refused-number r) (sym (ap answered is) ∙ judged)
 
 -- Calls on a sound book, by the machine's conditions.
 module _ {b : Book} {l : Lent} (s : Sound b l) (c : Change) where

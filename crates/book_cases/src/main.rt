@@ -5,7 +5,7 @@
 // A line printed is a case. It has a label, then each call with the number answered. Beside a refusal
 // stands `kept` where book, journal and index are as before, and `void` beside an opening that hands back the
 // void book and leaves the index. Totals has the length and, for each place that is not all 0, the place and
-// its eight figures. A command that is not understood prints `?`.
+// its eight figures. A number that has no room where it is put prints `?`.
 #![tactic(auto)]
 
 // Standard input, by its number: no crate may list `libc`, which names it.

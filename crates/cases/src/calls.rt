@@ -10,14 +10,14 @@ use writing::write;
 
 impl Desk {
     // Makes a call, a delivery with the entry of the numbers.
-    pub fn ask(&mut self, call: Call, numbers: &Numbers) {
+    pub(crate) fn ask(&mut self, call: Call, numbers: &Numbers) {
         let mut bytes = [0u8; 12];
         pack(&mut bytes, 0, &ENTRY, &numbers.row);
         self.answer(call, &bytes);
     }
 
     // Delivers so many of the numbers as bytes.
-    pub fn ask_bytes(&mut self, numbers: &Numbers) {
+    pub(crate) fn ask_bytes(&mut self, numbers: &Numbers) {
         let mut bytes = [0u8; 24];
         pack(&mut bytes, 0, &BYTES, &numbers.row);
         self.answer(Call::Deliver, first(&bytes, numbers.count));
@@ -43,7 +43,7 @@ impl Desk {
     }
 
     // Posts the file.
-    pub fn ask_post(&mut self) {
+    pub(crate) fn ask_post(&mut self) {
         let before = *self;
         let posted = post(
             first(&self.file, self.size),
@@ -55,14 +55,14 @@ impl Desk {
     }
 
     // Asks for totals.
-    pub fn ask_totals(&self) {
+    pub(crate) fn ask_totals(&self) {
         let journal = first(&self.journal, self.lent);
         let index = first(&self.index, self.places);
         show_totals(self.book.totals(journal, index));
     }
 
     // Writes the book into the first bytes of the file, so many of which are the output.
-    pub fn ask_write(&mut self, room: usize) {
+    pub(crate) fn ask_write(&mut self, room: usize) {
         let journal = first(&self.journal, self.lent);
         let index = first(&self.index, self.places);
         show_written(write(self.book, journal, index, first_mut(&mut self.file, room)));

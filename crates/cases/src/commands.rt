@@ -34,7 +34,7 @@ pub(crate) enum Command {
 impl Command {
     // The command that a word names by its last seven letters: longer words have always been read so, and what is
     // printed of a text may not change.
-    pub fn of(word: &[u8]) -> Option<Command> {
+    pub(crate) fn of(word: &[u8]) -> Option<Command> {
         let name = &word[word.len().saturating_sub(7)..];
         let command = match name {
             b"case" => Command::Case,

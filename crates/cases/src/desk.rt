@@ -21,7 +21,7 @@ pub(crate) struct Desk {
 
 impl Desk {
     // The void book, and zeros, all of them lent.
-    pub fn empty() -> Desk {
+    pub(crate) fn empty() -> Desk {
         Desk {
             book: void(),
             file: [0; 256],
@@ -35,7 +35,7 @@ impl Desk {
 
     // Puts a number into a place of the index. Prints `?` where there is no such place, or it does not hold the
     // number.
-    pub fn place(&mut self, place: u64, value: u64) {
+    pub(crate) fn place(&mut self, place: u64, value: u64) {
         match (self.index.get_mut(place as usize), u16::try_from(value)) {
             (Some(place), Ok(value)) => *place = value,
             _ => text(b" ?"),

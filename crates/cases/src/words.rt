@@ -7,12 +7,12 @@ pub(crate) struct Words<'a> {
 }
 
 impl<'a> Words<'a> {
-    pub fn of(text: &'a [u8]) -> Words<'a> {
+    pub(crate) fn of(text: &'a [u8]) -> Words<'a> {
         Words { rest: text }
     }
 
     // The next word; none at the end of the text.
-    pub fn next(&mut self) -> Option<&'a [u8]> {
+    pub(crate) fn next(&mut self) -> Option<&'a [u8]> {
         let (word, rest) = cut(from_word(self.rest));
         if word.is_empty() {
             return None;
@@ -22,7 +22,7 @@ impl<'a> Words<'a> {
     }
 
     // The next word if it is a number: it ends in a digit, and no name does.
-    pub fn number(&mut self) -> Option<u64> {
+    pub(crate) fn number(&mut self) -> Option<u64> {
         let (word, rest) = cut(from_word(self.rest));
         let last = word.last()?;
         if !last.is_ascii_digit() {
@@ -33,7 +33,7 @@ impl<'a> Words<'a> {
     }
 
     // What stands from the next word on, up to a colon or the end of its line.
-    pub fn label(&mut self) -> &'a [u8] {
+    pub(crate) fn label(&mut self) -> &'a [u8] {
         let text = from_word(self.rest);
         for (at, byte) in text.iter().enumerate() {
             if *byte == b':' || *byte == b'\n' {

@@ -8,6 +8,9 @@ use book::{Book, Totals};
 use call_answers::put_totals;
 use posting::post;
 
+// The bytes that totals answers.
+const ANSWER_BYTES: usize = 528;
+
 // Posts the file, and then asks for totals `rounds` times; what the last call gave goes into the first
 // 528 bytes of `answer`. Gives the number of post, or 13 where `answer` is shorter.
 pub fn reactive_post_totals(
@@ -19,7 +22,7 @@ pub fn reactive_post_totals(
 ) -> u32
     ensures { (result, (lent journal.new index.new, answer.new)) ≡ measured file.now (lent journal.old index.old) rounds answer.old }
 {
-    if answer.len() < 528 {
+    if answer.len() < ANSWER_BYTES {
         return 13;
     }
     let posted = post(file, journal, index);

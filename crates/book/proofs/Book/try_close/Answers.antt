@@ -1,14 +1,11 @@
 -- `book::Book::try_close` meets its contract.
-use mathlib.Core.Path.{◌≡◌, sym, ap, ◌∙◌}
+use mathlib.Core.Path.{sym, ap, ◌∙◌}
 use borrow.Author.Rules.{rules}
-use Rattle.std.specs.Prelude.{Result, Err, ⊤}
-use Rattle.answers.specs.declared.Refusal.{Refusal}
 use Rattle.answers.specs.Numbers.{answered}
-use Rattle.answers.proofs.Refusing.{refused-number}
 use Rattle.machine.specs.Machine.{close}
-use Rattle.book.specs.Library.{lent, outcome}
+use Rattle.book.specs.Library.{lent}
 use Rattle.book.proofs.Closing.{closed_already, closed_now}
-use Rattle.book.proofs.Numbers.{guarded, guard_refused}
+use Rattle.book.proofs.Numbers.{guarded, judged_refused}
 use Rattle.book.proofs.Sound.{Sound}
 use Rattle.book.proofs.Book.try_close.Goals.{In_ok-judge}
 use Rattle.book.proofs.Book.try_close.Goals as goal
@@ -18,11 +15,7 @@ lawful : (c : In_ok-judge) → Sound c.args.self.now (lent c.args.journal.now c.
 lawful c = guarded _ _ (sym c.judge.ensures ∙ ap answered c.in_ok-judge.was)
 
 pub returns-in_err-judge : goal.returns-in_err-judge
-returns-in_err-judge c =
-    let same : c.from_residual.result ≡ Err c.in_err-judge.field-0.0 = search rules in
-    let a = c.args in
-    ap (λ (r : Result ⊤ Refusal). outcome (answered r) a.self.now (lent a.journal.now a.index.now)) same
-    ∙ guard_refused _ _ close _ (refused-number c.in_err-judge.field-0.0) (sym (ap answered c.in_err-judge.was) ∙ c.judge.ensures)
+returns-in_err-judge c = judged_refused _ _ close c.in_err-judge.was c.judge.ensures (search rules)
 
 pub returns-then-self : goal.returns-then-self
 returns-then-self c = closed_already _ _ (lawful (goal.at.returns-then-self c).In_ok-judge) c.if-self.true

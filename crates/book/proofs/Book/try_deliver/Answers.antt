@@ -7,13 +7,12 @@ use Rattle.entry_record.proofs.Laws.{entry_decoded}
 use Rattle.answers.specs.declared.Refusal.{Refusal}
 use Rattle.answers.specs.declared.Refusal.TheVariants.{Unreadable}
 use Rattle.answers.specs.Numbers.{answered}
-use Rattle.answers.proofs.Refusing.{refused-number}
 use Rattle.audit.proofs.Lawful.{not_unlawful}
 use Rattle.audit.proofs.Placed.{read_range, placed, placed_read}
 use Rattle.machine.specs.Machine.{deliver}
 use Rattle.book.specs.Library.{lent, outcome}
 use Rattle.book.proofs.Deliveries.{not_read, Given, is_refused, counts, stands_before, is_posted}
-use Rattle.book.proofs.Numbers.{guarded, guard_refused}
+use Rattle.book.proofs.Numbers.{guarded, judged_refused}
 use Rattle.book.proofs.Sound.{Sound, journal_lawful, not_short}
 use Rattle.book.proofs.Book.try_deliver.Goals.{After-file_entry, In_ok-judge}
 use Rattle.book.proofs.Book.try_deliver.Goals as goal
@@ -34,11 +33,7 @@ given c =
     }
 
 pub returns-in_err-judge : goal.returns-in_err-judge
-returns-in_err-judge c =
-    let same : c.from_residual.result ≡ Err c.in_err-judge.field-0.0 = search rules in
-    let a = c.args in
-    ap (λ (r : Result ⊤ Refusal). outcome (answered r) a.self.now (lent a.journal.now a.index.now)) same
-    ∙ guard_refused _ _ (deliver a.bytes.now) _ (refused-number c.in_err-judge.field-0.0) (sym (ap answered c.in_err-judge.was) ∙ c.judge.ensures)
+returns-in_err-judge c = judged_refused _ _ (deliver c.args.bytes.now) c.in_err-judge.was c.judge.ensures (search rules)
 
 pub returns-in_err-entry : goal.returns-in_err-entry
 returns-in_err-entry c =
