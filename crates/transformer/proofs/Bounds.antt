@@ -2,7 +2,7 @@
 use Prim.Native.Nat.{ℕ, ◌+◌, ◌*◌, ◌≤◌, ◌<◌, ◌^◌}
 use mathlib.Core.Path.{◌≡◌, refl, sym, ap₂, subst, ◌∙◌}
 use mathlib.Core.Bool.{Bool, true, false}
-use native.Mathlib.Nat.{lt_of_le_of_lt, mul-le-mul, mul-le-mul_left, mul-le-mul_right, mul-div-le, lt-mul-div-succ}
+use native.Mathlib.Nat.{lt_of_le_of_lt, mul-le-mul, mul-le-mul_left, mul-le-mul_right, mul-lt-mul_of_pos_right, mul-div-le, lt-mul-div-succ}
 use native.Mathlib.Omega.{arith}
 use borrow.Author.Tests.{leb-true, leb-false, ltb-false}
 use lib.Dec.{leb}
@@ -13,8 +13,8 @@ use Rattle.transformer.specs.declared.LowSide.{LowSide}
 use Rattle.transformer.specs.declared.DataSheet.{DataSheet}
 use Rattle.transformer.specs.LowSide.{uk_below_U_R, number, root, loss}
 use Rattle.transformer.specs.Steps.{squared_energy}
-use Rattle.transformer.proofs.Reduced.{uk_reduced, loss_reduced}
-use Rattle.transformer.proofs.Roots.{root_most}
+use Rattle.transformer.proofs.Reduced.{radicand, uk_reduced, loss_reduced}
+use Rattle.transformer.proofs.Roots.{square_lt, root_most}
 use Rattle.transformer.proofs.Accepted.{Sheet, sheet, accepted}
 
 -- a product of bounded numbers does not wrap
@@ -28,6 +28,11 @@ module _ (t : DataSheet) (s : Sheet t) where
 
   pub copper_most : 10000 * t.copper ≤ 40000000
   copper_most = omega (arith, s.losses)
+
+  pub radicand_lt : radicand t < 400001 * t.sn * (400001 * t.sn)
+  radicand_lt =
+      let side : 100 * t.uk * t.sn < 400001 * t.sn = mul-lt-mul_of_pos_right (omega (arith, s.voltage)) s.some in
+      omega (arith, square_lt (100 * t.uk * t.sn) (400001 * t.sn) side)
 
   pub idle_most : 62500 * t.i0 * t.sn ≤ 1250000000000
   idle_most = mul-le-mul {n₁ = 62500 * t.i0} {n₂ = 250000000} (omega (arith, s.current)) s.power

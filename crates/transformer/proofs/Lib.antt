@@ -3,6 +3,7 @@ mod Reducing
 mod Greatest
 mod Reduced
 mod Roots
+mod Bisecting
 mod Accepted
 mod Bounds
 mod Distance

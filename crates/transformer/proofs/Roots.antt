@@ -68,7 +68,7 @@ module _ (t : DataSheet) (h : 0 < t.sn) where
   root_most = bounded (root t) is_greatest.passed
 
   -- and it is the only number that does
-  root_is : (r : ℕ) → r * t.sn * (r * t.sn) ≤ radicand t → radicand t < (r + 1) * t.sn * ((r + 1) * t.sn) → r ≡ root t
+  pub root_is : (r : ℕ) → r * t.sn * (r * t.sn) ≤ radicand t → radicand t < (r + 1) * t.sn * ((r + 1) * t.sn) → r ≡ root t
   root_is r lower upper = le_antisymm (is_greatest.above r (passing r lower)) (go (leb (root t) r) refl)
     where
       go : (b : Bool) → leb (root t) r ≡ b → root t ≤ r

@@ -1,20 +1,16 @@
 -- `transformer::root::root` meets its contract.
 use native.Mathlib.Omega.{arith}
-use Rattle.transformer.proofs.Roots.{root_found, root_most}
+use Rattle.transformer.proofs.Roots.{root_is}
 use Rattle.transformer.proofs.Accepted.{sheet}
-use Rattle.transformer.proofs.Bounds.{product_fits, voltage_most, copper_most, copper_below}
+use Rattle.transformer.proofs.Bounds.{product_fits, voltage_most, copper_most, radicand_lt, copper_below}
 use Rattle.transformer.proofs.root.root.Goals as goal
 
 pub returns : goal.returns
 returns c =
-    let t = c.args.sheet in
-    let s = sheet t c.requires.sheet_value in
-    let i = c.isqrt.ensures in
-    let v = root_found t s.some _ i.square_le i.next_square_gt in
-    record { value = v; upper_bound = omega (arith, v, root_most t s.some, s.voltage) }
-
-pub nonzero_div-result : goal.nonzero_div-result
-nonzero_div-result c = (sheet c.args.sheet c.requires.sheet_value).some
+    let a = c in
+    let s = sheet a.args.sheet a.requires.sheet_value in
+    let r = c.bisected.ensures in
+    record { value = root_is a.args.sheet s.some _ r.sn_bound_2 r.radicand_bound_2; upper_bound = r.upper_bound }
 
 pub overflow_mul-uk-2 : goal.overflow_mul-uk-2
 overflow_mul-uk-2 c =
@@ -37,3 +33,9 @@ pub overflow_sub-radicand : goal.overflow_sub-radicand
 overflow_sub-radicand c =
     let a = c in
     copper_below a.args.sheet (sheet a.args.sheet a.requires.sheet_value) a.requires.sheet_value_2
+
+pub bisected-requires : goal.bisected-requires
+bisected-requires c =
+    let a = c in
+    let s = sheet a.args.sheet a.requires.sheet_value in
+    record { sn_bound = s.power; radicand_bound = radicand_lt a.args.sheet s }
