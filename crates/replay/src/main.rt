@@ -7,6 +7,8 @@
 mod buffers;
 mod page;
 
+ghost use Rattle.std.specs.Prelude.{◌<◌, ◌^◌, IfSome};
+
 use answers::Refusal;
 use buffers::filled;
 use call_list::run_calls;
@@ -73,7 +75,9 @@ impl Input<'_> {
 }
 
 // The number in the first four bytes, and what is behind them.
-fn length_in(bytes: &[u8]) -> Option<(usize, &[u8])> {
+fn length_in(bytes: &[u8]) -> Option<(usize, &[u8])>
+    ensures { IfSome result (λ found. found.0 < 2 ^ 32) }
+{
     let (number, behind) = bytes.split_first_chunk()?;
     Some((u32::from_be_bytes(*number) as usize, behind))
 }
