@@ -1,5 +1,5 @@
 -- What every statement has: the figures of a book, or a refusal. Assumes nothing.
-use Prim.Native.Nat.{ℕ, ◌≤◌}
+use Prim.Native.Nat.{ℕ, ◌≤◌, ◌<◌}
 use mathlib.Core.Path.{◌≡◌, refl}
 use mathlib.Core.Bool.{Bool, true, false, cond}
 use mathlib.Core.List.{List}
@@ -14,7 +14,7 @@ use Rattle.report.specs.Statement.{of_book, reported, input_most, own_lent, stat
 
 -- what the figures of a book and a refusal have, the statement of what was read has
 pub statement_has : (P : Result Statement ℕ → Type 0) (input : List ℕ) → let r = posting input own_lent in P (Ok (of_book r.book))
-    → P (Err 12) → (length input ≤ input_most → P (Err r.number)) → P (statement input)
+    → P (Err 12) → (length input ≤ input_most → 0 < r.number → P (Err r.number)) → P (statement input)
 unfolding statement reported
 statement_has P input figures too_long_lem refused = go (ltb input_most (length input)) refl
   where
@@ -24,4 +24,4 @@ statement_has P input figures too_long_lem refused = go (ltb input_most (length 
     go false e =
         let r = posting input own_lent in
         chosen P r.number (Ok (of_book r.book)) (Err r.number) (λ z. figures)
-        (λ p. refused (ltb-false input_most (length input) e))
+        (refused (ltb-false input_most (length input) e))

@@ -25,7 +25,7 @@ book_summed b = refl
 -- and so is every statement's
 statement_summed : (input : List ℕ) → Summed (statement input)
 statement_summed input =
-    let r = posting input own_lent in statement_has Summed input (book_summed r.book) tt (λ h. tt)
+    let r = posting input own_lent in statement_has Summed input (book_summed r.book) tt (λ h p. tt)
 
 -- column by column
 pub total_is_sum : TotalIsSum

@@ -81,6 +81,10 @@ numbers_seen = 0 ∷ 1 ∷ 2 ∷ 3 ∷ 4 ∷ 5 ∷ 6 ∷ 9 ∷ 12 ∷ []
 abbrev pub OnlyNumbersSeen : Type 0
 OnlyNumbersSeen = (input : List ℕ) → any_of (eqb (number (statement input))) numbers_seen ≡ true
 
+-- and 0 of them comes with the figures of a book alone: no refusal is handed over with it
+abbrev pub NeverRefusedBy0 : Type 0
+NeverRefusedBy0 = (input : List ℕ) → statement input ≡ Err 0 → ⊥
+
 -- "It prints `refused N`, or a line .., then a line for each point"
 unfoldable pub printed : List ℕ → Page
 printed input = page_of (text_of (statement input))
