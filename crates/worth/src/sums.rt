@@ -1,7 +1,7 @@
 // Sums of figures, column by column.
 ghost use Rattle.std.specs.Prelude.{◌≡◌, ◌+◌, ◌-◌};
 ghost use Rattle.quantity.specs.Quantity.{capped};
-ghost use Rattle.worth.specs.Figures.{figure, each};
+ghost use Rattle.worth.specs.Figures.{figure, each, same};
 
 use crate::Figures;
 
@@ -36,5 +36,12 @@ impl Figures {
             credit: self.credit.minus(other.credit),
             debit: self.debit.minus(other.debit),
         }
+    }
+
+    // Whether each figure is that of the other.
+    pub fn equals(self, other: Figures) -> bool
+        ensures { result ≡ same self other }
+    {
+        self == other
     }
 }
