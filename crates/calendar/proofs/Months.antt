@@ -1,15 +1,31 @@
--- The calendar checked at known months, and the longest month.
+-- The calendar checked at known months, the quarters of a month from the tests that lead to them, and the longest month.
 -- Assumes nothing.
 use Prim.Native.Nat.{ℕ, ◌*◌, ◌≤◌}
 use mathlib.Core.Path.{◌≡◌, refl}
 use mathlib.Core.Bool.{Bool, true, false, cond, ◌&&◌, ◌||◌}
 use native.Mathlib.Omega.{arith}
+use borrow.Author.Tests.{eq-eqb, ne_eqb}
 use lib.Dec.{eqb, leb}
 use Rattle.calendar.specs.Calendar.{leap, days_of, quarters_of, most_quarters, calendar, all_met}
 
 pub months : all_met calendar ≡ true
 unfolding all_met quarters_of days_of leap
 months = refl
+
+module _ (y m : ℕ) where
+  -- the quarters of a month from the tests that lead to them
+  pub march : m ≡ 3 → 2972 ≡ quarters_of y m
+  unfolding quarters_of
+  march h = rw (eq-eqb m 3 h)
+
+  module _ (h : m ≡ 3 → ⊥) where
+    pub october : m ≡ 10 → 2980 ≡ quarters_of y m
+    unfolding quarters_of
+    october t = rw (ne_eqb m 3 h, eq-eqb m 10 t)
+
+    pub by_days : (m ≡ 10 → ⊥) → (d : ℕ) → d ≡ days_of y m → 96 * d ≡ quarters_of y m
+    unfolding quarters_of
+    by_days f d e = rw (ne_eqb m 3 h, ne_eqb m 10 f, e)
 
 -- no month has more days than 31
 days_most : (y m : ℕ) → days_of y m ≤ 31

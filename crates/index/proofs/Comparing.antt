@@ -52,7 +52,7 @@ both_hold false true = refl
 both_hold false false = refl
 
 -- one place more
-differ-next : (n : ℕ) (one other : List ℕ) (same : Bool) → same ≡ not (differ n one other)
+pub differ-next : (n : ℕ) (one other : List ℕ) (same : Bool) → same ≡ not (differ n one other)
     → (same && eqb (get_or one n 0) (get_or other n 0)) ≡ not (differ (n + 1) one other)
 unfolding differ any_below
 differ-next n one other same e =
