@@ -1,4 +1,5 @@
 mod Asking
 mod Lent
+mod LowSide
 mod QuarterHour
 mod Shares

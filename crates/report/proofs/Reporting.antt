@@ -4,7 +4,7 @@ use mathlib.Core.Path.{◌≡◌, refl, ap}
 use mathlib.Core.List.{List}
 use borrow.Author.Tests.{lt-ltb, le-ltb}
 use lib.ListN.{length, replicate}
-use Rattle.std.specs.Prelude.{Ok, Err}
+use Rattle.std.specs.Prelude.{Result, Ok, Err}
 use Rattle.refusals.proofs.First.{refuse}
 use Rattle.book.specs.Library.{lent}
 use Rattle.posting.specs.Posting.{PostResult, posting}
@@ -16,7 +16,13 @@ pub too_much : (input : List ℕ) → input_most < length input → Err 12 ≡ s
 unfolding statement
 too_much input h = rw (lt-ltb input_most (length input) h) refl
 
--- What posting gives is reported.
+-- what posting gives is reported
+pub shown : (input : List ℕ) (s : Result Statement ℕ) (n : ℕ) (x : PostResult) → length input ≤ input_most
+    → x ≡ posting input (lent (replicate journal_size 0) (replicate index_size 0)) → n ≡ x.number → s ≡ reported n x.book → s ≡ statement input
+unfolding own_lent statement
+shown input s n x h q e r = rw (le-ltb input_most (length input) h, ← q, ← e) r
+
+-- The two cases of it.
 module _ (input : List ℕ) (x : PostResult) (h : length input ≤ input_most)
     (q : x ≡ posting input (lent (replicate journal_size 0) (replicate index_size 0))) where
   -- a refusal by its number

@@ -20,7 +20,7 @@ pub(crate) fn root(sheet: DataSheet) -> u64
 
 // The greatest number whose product with Sn has a square of at most the radicand: the one before the least that
 // has a larger square, found by bisection. By hand, since the library's square root goes 32 turns, whatever its number,
-// where these are 19: with it a conversion took nearly twice as long.
+// where these are at most 19: with it a conversion took nearly twice as long on one data sheet.
 fn bisected(sn: u64, radicand: u64) -> u64
     requires sn_bound { sn ≤ 5000 }
     requires radicand_bound { radicand < 400001 * sn * (400001 * sn) }
