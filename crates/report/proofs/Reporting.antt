@@ -1,6 +1,6 @@
 -- What is printed, from what posting gives. Assumes nothing.
 use Prim.Native.Nat.{ℕ, ◌<◌, ◌≤◌}
-use mathlib.Core.Path.{◌≡◌, refl, ap}
+use mathlib.Core.Path.{◌≡◌, refl, sym, ap}
 use mathlib.Core.List.{List}
 use borrow.Author.Tests.{lt-ltb, le-ltb}
 use lib.ListN.{length, replicate}
@@ -27,10 +27,10 @@ module _ (input : List ℕ) (x : PostResult) (h : length input ≤ input_most)
     (q : x ≡ posting input (lent (replicate journal_size 0) (replicate index_size 0))) where
   -- a refusal by its number
   pub turned_down : (n : ℕ) → n ≡ x.number → 0 < n → Err n ≡ statement input
-  unfolding own_lent statement reported
-  turned_down n e p = rw (le-ltb input_most (length input) h, ← q, ← e, refuse p) refl
+  unfolding reported
+  turned_down n e p = shown input (Err n) n x h q e (rw (refuse p) refl)
 
   -- and else the figures of the book
   pub in_full : x.number ≡ 0 → (s : Statement) → s ≡ of_book x.book → Ok s ≡ statement input
-  unfolding own_lent statement reported
-  in_full z s e = rw (le-ltb input_most (length input) h, ← q, z) (ap Ok e)
+  unfolding reported
+  in_full z s e = shown input (Ok s) 0 x h q (sym z) (ap Ok e)
